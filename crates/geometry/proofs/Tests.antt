@@ -1,0 +1,29 @@
+-- What a test that passed or failed tells. Assumes nothing.
+use Prim.Native.Nat.{ℕ, _≤_}
+use mathlib.Core.Path.{_≡_, refl, sym, _∙_}
+use mathlib.Core.Bool.{Bool, true, false, not, _&&_, false≢true}
+use lib.Dec.{leb}
+use borrow.Author.Tests.{leb-true, not-true, not-false}
+use Rattle.geometry.specs.Conditions.{inRange}
+
+-- a call ensures that its result is the test t, and the branch on `!result` was taken: t failed
+pub told-not : {a t : Bool} → a ≡ t → not a ≡ true → t ≡ false
+told-not {a} e q = sym e ∙ not-true a q
+
+-- the branch on `!result` was left: t passed
+pub told-yes : {a t : Bool} → a ≡ t → not a ≡ false → t ≡ true
+told-yes {a} e q = sym e ∙ not-false a q
+
+pub and-left : (a b : Bool) → a && b ≡ true → a ≡ true
+and-left true b e = refl
+and-left false b e = e
+
+pub and-right : (a b : Bool) → a && b ≡ true → b ≡ true
+and-right true b e = e
+and-right false b e = absurd (false≢true e)
+
+pub low : (least most x : ℕ) → inRange least most x ≡ true → least ≤ x
+low least most x e = leb-true least x (and-left (leb least x) (leb x most) e)
+
+pub high : (least most x : ℕ) → inRange least most x ≡ true → x ≤ most
+high least most x e = leb-true x most (and-right (leb least x) (leb x most) e)
