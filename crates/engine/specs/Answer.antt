@@ -1,0 +1,34 @@
+-- 01's number and values for each case of an access's answer.
+-- Assumes nothing.
+use Prim.Native.Nat.{ℕ}
+use Rattle.geometry.specs.Entry.{empty}
+use Rattle.engine.specs.declared.Move.{Move}
+use Rattle.engine.specs.declared.Move.the-variants.{Stayed, ToSlot, OverSlot}
+use Rattle.engine.specs.declared.Access.{Access}
+use Rattle.engine.specs.declared.Access.the-variants.{Refused, Done}
+
+-- the refusal's number, 0 where the access was accepted
+abbrev pub numberOf : Access → ℕ
+numberOf (Refused x) = x
+numberOf (Done p m) = 0
+
+-- 'An answer gives p, ..'; 'Beside the number a refusal holds nothing: each figure in it is 0, ..'
+abbrev pub placeOf : Access → ℕ
+placeOf (Refused x) = 0
+placeOf (Done p m) = p .0
+
+-- '.. and slot moved to and row sent home are none.'
+abbrev pub moveOf : Access → Move
+moveOf (Refused x) = Stayed
+moveOf (Done p m) = m
+
+-- 'the slot moved to or none, and the row sent home or none', none being the mark 65535
+abbrev pub slotMovedTo : Move → ℕ
+slotMovedTo Stayed = empty
+slotMovedTo (ToSlot d) = d .0
+slotMovedTo (OverSlot d v) = d .0
+
+abbrev pub rowSentHome : Move → ℕ
+rowSentHome Stayed = empty
+rowSentHome (ToSlot d) = empty
+rowSentHome (OverSlot d v) = v .0

@@ -1,0 +1,92 @@
+-- Document 01: each call, for any settings, arguments and lent memory: what it leaves and what it answers.
+-- These are the definitions that the engine's promises cite and that `history` folds over.
+-- Assumes nothing.
+use Prim.Native.Nat.{ℕ}
+use mathlib.Core.Bool.{cond}
+use mathlib.Core.List.{List, []}
+use lib.Dec.{eqb}
+use lib.ListN.{length, replicate}
+use Rattle.geometry.specs.declared.Settings.{Settings}
+use Rattle.geometry.specs.declared.Control.{Control}
+use Rattle.geometry.specs.Numbering.{physical}
+use Rattle.geometry.specs.Entry.{empty}
+use Rattle.rows.specs.Bytes.{rowBytes, written}
+use Rattle.engine.specs.declared.Access.{Access}
+use Rattle.engine.specs.declared.Access.the-variants.{Refused, Done}
+use Rattle.engine.specs.State.{State}
+use Rattle.engine.specs.Steps.{place, move, accessed}
+use Rattle.engine.specs.Ladder.{setUpNumber, tickNumber, inspectNumber, accessNumber, readSpan, writeSpan}
+
+-- ---- set-up and tick answer a number
+
+pub record Noted : Type 0 where
+  pub state : State
+  pub number : ℕ
+
+-- the effect where the number is 0; 'Control record and all lent memory remain as before the call' where it is not
+unfoldable pub noted : State → ℕ → State → Noted
+noted σ number effect = record { state = cond (eqb number 0) effect σ; number = number }
+
+-- 'Set-up fills both pointer tables and the tracker rows with 65535, the counts and the four fields with 0, and leaves the store.'
+abbrev pub cleared : Settings → State → State
+cleared S σ =
+    record {
+      store = σ .store;
+      forward = replicate (S .n) empty;
+      reverse = replicate (S .q) empty;
+      rows = replicate (S .k) empty;
+      counts = replicate (S .k) 0;
+      control = record { head = 0; passed = 0; spill = 0; acts = 0 };
+    }
+
+unfoldable pub setUp : Settings → State → Noted
+setUp S σ = noted σ (setUpNumber S σ) (cleared S σ)
+
+-- 'tracker rows 65535, counts 0, `spill`, `acts`, `passed` 0. `head`, pointers and store remain.'
+abbrev pub ticked : Settings → State → State
+ticked S σ =
+    record {
+      store = σ .store;
+      forward = σ .forward;
+      reverse = σ .reverse;
+      rows = replicate (S .k) empty;
+      counts = replicate (S .k) 0;
+      control = record { head = σ .control .head; passed = 0; spill = 0; acts = 0 };
+    }
+
+unfoldable pub tick : Settings → State → Noted
+tick S σ = noted σ (tickNumber S σ) (ticked S σ)
+
+-- ---- read and write answer an `Access`
+
+-- buffer: the read buffer afterwards; of a write nothing
+pub record Accessed : Type 0 where
+  pub state : State
+  pub answer : Access
+  pub buffer : List ℕ
+
+-- an access of row r; 'Control record and all lent memory remain as before the call, the read buffer too' where it is refused.
+-- store: the store after step 3; filled: the buffer where it is accepted
+unfoldable pub answered : Settings → State → ℕ → ℕ → List ℕ → List ℕ → List ℕ → Accessed
+answered S σ r number store filled buffer =
+    record {
+      state = cond (eqb number 0) (accessed S σ r store) σ;
+      answer = cond (eqb number 0) (Done (physical (place S σ r)) (move S σ r)) (Refused number);
+      buffer = cond (eqb number 0) filled buffer;
+    }
+
+-- 'Read takes a row and a buffer of exactly W bytes, which it fills.'
+unfoldable pub read : Settings → State → ℕ → List ℕ → Accessed
+read S σ r buffer =
+    answered S σ r (accessNumber S σ r (readSpan S (length buffer))) (σ .store) (rowBytes (S .w) (σ .store) (place S σ r)) buffer
+
+-- 'Write takes a row, a column and bytes; column plus count may be at most W.'
+unfoldable pub write : Settings → State → ℕ → ℕ → List ℕ → Accessed
+write S σ r column bytes =
+    answered S σ r (accessNumber S σ r (writeSpan S column (length bytes))) (written (S .w) (σ .store) (place S σ r) column bytes) [] []
+
+-- ---- inspect answers `inspectNumber` by one call and this part by the other
+
+-- 'the part of the lent store that holds the row at present'; 'the part has length 0 exactly when the number isn't 0'
+unfoldable pub inspectPart : Settings → State → ℕ → List ℕ
+inspectPart S σ r = cond (eqb (inspectNumber S σ r) 0) (rowBytes (S .w) (σ .store) (place S σ r)) []

@@ -1,0 +1,5 @@
+pub mod State
+pub mod Answer
+pub mod Steps
+pub mod Ladder
+pub mod Calls

@@ -1,0 +1,104 @@
+-- Document 01, 'One access': what an accepted read or write of row r does, step by step.
+-- Assumes nothing.
+use Prim.Native.Nat.{ℕ, suc, _+_, _%_}
+use mathlib.Core.Bool.{Bool, cond}
+use mathlib.Core.List.{List}
+use lib.Dec.{eqb}
+use lib.ListN.{set}
+use Rattle.geometry.specs.declared.Settings.{Settings}
+use Rattle.geometry.specs.Numbering.{visible, slot, homeRow, slotRow}
+use Rattle.geometry.specs.Entry.{empty}
+use Rattle.tracker.specs.Track.{Tracked, track, isDue}
+use Rattle.rows.specs.Bytes.{copied}
+use Rattle.engine.specs.declared.Move.{Move}
+use Rattle.engine.specs.declared.Move.the-variants.{Stayed, ToSlot, OverSlot}
+use Rattle.engine.specs.State.{State, forwardOf, reverseOf}
+
+-- 1. 'Place p: slot s's physical row if the row's forward entry is s, else its home.'
+abbrev pub placeBy : Settings → ℕ → ℕ → ℕ
+placeBy S entry r = cond (eqb entry empty) (homeRow r) (slotRow S entry)
+
+abbrev pub place : Settings → State → ℕ → ℕ
+place S σ r = placeBy S (forwardOf σ r) r
+
+-- 2. the tracker after it, and the estimate
+abbrev pub tracked : Settings → State → ℕ → Tracked
+tracked S σ r = track (place S σ r) (σ .rows) (σ .counts) (σ .control .spill)
+
+-- 4. 'If there is an estimate and it is a multiple of A, the row is quarantined.'
+abbrev pub moves : Settings → State → ℕ → Bool
+moves S σ r = isDue (S .a) ((tracked S σ r) .estimate)
+
+-- 'the row itself sits in slot `head`'
+abbrev pub sitsAtHead : State → ℕ → Bool
+sitsAtHead σ r = eqb (forwardOf σ r) (σ .control .head)
+
+-- 'the destination d is `head`; but if the row itself sits in slot `head`, .. d is the next one, (head + 1) mod Q'
+unfoldable pub destination : Settings → State → ℕ → ℕ
+destination S σ r = cond (sitsAtHead σ r) ((σ .control .head + 1) % S .q) (σ .control .head)
+
+-- '`passed` rises by 1, or by 2 where a slot was passed'
+unfoldable pub rise : State → ℕ → ℕ
+rise σ r = cond (sitsAtHead σ r) 2 1
+
+-- where the row goes, and which row is sent home: 'If the reverse entry of d names a row v'
+unfoldable pub move : Settings → State → ℕ → Move
+move S σ r =
+    let d : ℕ = destination S σ r in
+    cond (moves S σ r)
+    (cond (eqb (reverseOf σ d) empty) (ToSlot (slot d)) (OverSlot (slot d) (visible (reverseOf σ d))))
+    Stayed
+
+-- 'slot d is copied to v's home .. Then p is copied to slot d.'
+abbrev pub storeAfter : Settings → List ℕ → ℕ → Move → List ℕ
+storeAfter S store p Stayed = store
+storeAfter S store p (ToSlot d) = copied (S .w) store p (slotRow S (d .0))
+storeAfter S store p (OverSlot d v) =
+    copied (S .w) (copied (S .w) store (slotRow S (d .0)) (homeRow (v .0))) p (slotRow S (d .0))
+
+-- 'v's forward entry emptied .. forward of the row becomes d'
+abbrev pub forwardAfter : List ℕ → ℕ → Move → List ℕ
+forwardAfter forward r Stayed = forward
+forwardAfter forward r (ToSlot d) = set forward r (d .0)
+forwardAfter forward r (OverSlot d v) = set (set forward (v .0) empty) r (d .0)
+
+-- 'If p was a slot, its reverse entry is emptied.' (entry: the row's forward entry before)
+abbrev pub left : List ℕ → ℕ → List ℕ
+left reverse entry = cond (eqb entry empty) reverse (set reverse entry empty)
+
+-- 'Reverse of d becomes the row'
+abbrev pub reverseAfter : List ℕ → ℕ → ℕ → Move → List ℕ
+reverseAfter reverse entry r Stayed = reverse
+reverseAfter reverse entry r (ToSlot d) = set (left reverse entry) (d .0) r
+reverseAfter reverse entry r (OverSlot d v) = set (left reverse entry) (d .0) r
+
+-- '`head` becomes (d + 1) mod Q'
+abbrev pub headAfter : Settings → ℕ → Move → ℕ
+headAfter S head Stayed = head
+headAfter S head (ToSlot d) = (d .0 + 1) % S .q
+headAfter S head (OverSlot d v) = (d .0 + 1) % S .q
+
+abbrev pub passedAfter : ℕ → ℕ → Move → ℕ
+passedAfter passed up Stayed = passed
+passedAfter passed up (ToSlot d) = passed + up
+passedAfter passed up (OverSlot d v) = passed + up
+
+-- all that is lent after the four steps; store: what step 3 left there ('The bytes are read or written at p')
+abbrev pub settled : Settings → State → ℕ → List ℕ → Move → State
+settled S σ r store m =
+    record {
+      store = storeAfter S store (place S σ r) m;
+      forward = forwardAfter (σ .forward) r m;
+      reverse = reverseAfter (σ .reverse) (forwardOf σ r) r m;
+      rows = (tracked S σ r) .rows;
+      counts = (tracked S σ r) .counts;
+      control = record {
+        head = headAfter S (σ .control .head) m;
+        passed = passedAfter (σ .control .passed) (rise σ r) m;
+        spill = (tracked S σ r) .spill;
+        acts = suc (σ .control .acts);
+      };
+    }
+
+abbrev pub accessed : Settings → State → ℕ → List ℕ → State
+accessed S σ r store = settled S σ r store (move S σ r)

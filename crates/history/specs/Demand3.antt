@@ -1,0 +1,48 @@
+-- Demand 3, as one claim about a list of calls as a whole. Its proof is `demand-3` of proofs/History.antt.
+-- Assumes nothing.
+use Prim.Native.Nat.{ℕ, _+_, _*_, _/_, _≤_, _<_}
+use mathlib.Core.Path.{_≡_}
+use mathlib.Core.List.{List, [], _∷_}
+use Rattle.geometry.specs.declared.Settings.{Settings}
+use Rattle.geometry.specs.Numbering.{homeRow, slotRow}
+use Rattle.engine.specs.State.{State}
+use Rattle.engine.specs.Calls.{setUp}
+use Rattle.history.specs.Run.{Call, read, write, tick, inspect, Event, events, Each}
+use Rattle.history.specs.Tally.{Tally, start, feed, Stretch, openingsIn, quarantinesIn, epochs}
+
+-- what holds of an epoch
+pub record Bounded (S : Settings) (e : Stretch) : Type 0 where
+  -- each home row is opened at most A + 2 times
+  pub homes : (r : ℕ) → r < S .n → openingsIn e (homeRow r) ≤ S .a + 2
+  -- each slot is opened at most 2A + 3 times
+  pub slots : (s : ℕ) → s < S .q → openingsIn e (slotRow S s) ≤ 2 * S .a + 3
+  -- there are at most floor(L / A) quarantines
+  pub quarantines : quarantinesIn e ≤ S .l / S .a
+
+-- 'An access is refused for want of a slot when it gets 9.'
+abbrev pub NoSlotWanting : Event → Type 0
+NoSlotWanting e = e .answer .number ≡ 9 → ⊥
+
+-- 'each accepted access answers as p the place that the tally has for its row'
+abbrev pub AnswersPlace : Tally → Event → ℕ → Type 0
+AnswersPlace τ e r = e .answer .number ≡ 0 → e .answer .place ≡ τ .place r
+
+abbrev pub AccessAnswersPlace : Tally → Event → Call → Type 0
+AccessAnswersPlace τ e (read r buffer) = AnswersPlace τ e r
+AccessAnswersPlace τ e (write r column bytes) = AnswersPlace τ e r
+AccessAnswersPlace τ e tick = Unit {0}
+AccessAnswersPlace τ e (inspect r) = Unit {0}
+
+abbrev pub PlacesAnswered : Settings → Tally → List Event → Type 0
+PlacesAnswered S τ [] = Unit {0}
+PlacesAnswered S τ (e ∷ es) = AccessAnswersPlace τ e (e .call) × PlacesAnswered S (feed S τ e) es
+
+-- demand 3, of what the calls after set-up answered
+pub record Kept (S : Settings) (es : List Event) : Type 0 where
+  pub bounded : Each (Bounded S) (epochs S start start es)
+  pub enough : 2 * (S .l / S .a) ≤ S .q → Each NoSlotWanting es
+  pub places : PlacesAnswered S start es
+
+-- For all settings, all lent memory and all lists of calls: if set-up is accepted, then demand 3 holds of the list.
+abbrev pub Demand3 : Type 0
+Demand3 = (S : Settings) (σ : State) (cs : List Call) → (setUp S σ) .number ≡ 0 → Kept S (events S ((setUp S σ) .state) cs)

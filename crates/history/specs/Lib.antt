@@ -1,0 +1,4 @@
+pub mod Run
+pub mod Tally
+pub mod Demand2
+pub mod Demand3
