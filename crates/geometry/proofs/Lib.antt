@@ -1,3 +1,4 @@
 pub mod Cases
 pub mod Tests
 pub mod Words
+pub mod Facts

@@ -1,0 +1,239 @@
+-- One call: it carries the invariant on, and what it answers. Assumes nothing.
+use Prim.Native.Nat.{ℕ, suc, _+_, _*_, _/_, _<_, _≤_, zero-le}
+use native.Mathlib.Omega.{arith}
+use mathlib.Core.Path.{_≡_, refl, sym, ap, _∙_}
+use mathlib.Core.Logic.{_⊎_, inl, inr, _≢_}
+use mathlib.Core.Bool.{Bool, true, false, cond, _&&_}
+use mathlib.Core.List.{List, []}
+use lib.Dec.{ltb, eqb}
+use lib.ListN.{length, getD, replicate, getD-replicate, length-replicate}
+use borrow.Author.Tests.{eqb-true, eqb-false, eq-eqb, ltb-true, leb-true}
+use Rattle.geometry.specs.declared.Settings.{Settings}
+use Rattle.geometry.specs.Numbering.{physical}
+use Rattle.geometry.specs.Conditions.{rangesHold, limitHolds}
+use Rattle.geometry.specs.Entry.{empty}
+use Rattle.geometry.proofs.Cases.{split, eq?}
+use Rattle.geometry.proofs.Facts.{Ranges, Exact, ranges-facts, limit-fact, lengths-facts, lengths-hold}
+use Rattle.tracker.proofs.Sums.{quotients}
+use Rattle.tracker.proofs.View.{Counting, counting-new, estimate-new, quotients-new, quotients-few, spill-within, spill-below, count-within}
+use Rattle.rows.specs.Bytes.{rowBytes, written}
+use Rattle.rows.proofs.Laws.{length-written}
+use Rattle.engine.specs.declared.Move.{Move}
+use Rattle.engine.specs.declared.Access.{Access}
+use Rattle.engine.specs.declared.Access.the-variants.{Refused, Done}
+use Rattle.engine.specs.State.{State, lengthsOf, forwardOf, reverseOf}
+use Rattle.engine.specs.Answer.{numberOf, placeOf, moveOf}
+use Rattle.engine.specs.Steps.{place, moves, destination, move, accessed}
+use Rattle.engine.specs.Ladder.{rung, _▹_, controlHolds, destinationHolds, setUpNumber, tickNumber, inspectNumber, accessNumber, readSpan, writeSpan}
+use Rattle.engine.specs.Calls as calls
+use Rattle.engine.proofs.Rungs.{held, holds, rung-all, ladder-all, unless-holds}
+use Rattle.engine.proofs.Facts.{Fit, fit, Steady, steady-holds, tick-passes, tick-most, inspect-most, row-holds, slot-holds, Accepted, accepted, Wanting, wanting, inspected}
+use Rattle.history.specs.Run.{Call, read, write, tick, inspect, Step, Event, ofAccess, ofNoted, bare, step}
+use Rattle.history.specs.Tally as tally
+use Rattle.history.specs.Demand2.{Inverse}
+use Rattle.history.specs.Demand3.{Bounded, AccessAnswersPlace}
+use Rattle.history.proofs.Window.{gone-none}
+use Rattle.history.proofs.Openings.{here, home-bound, home-new, slot-bound, slot-new}
+use Rattle.history.proofs.Pointers.{Sound, marks-none, place-in}
+use Rattle.history.proofs.Invariant.{Inv, estimate, gone}
+use Rattle.history.proofs.Access.{destination-in, plan, inv-settled, never-wanting}
+
+-- ---- a new epoch: tables as they stand, a tracker as set up, nothing gone by
+
+pub inv-new : (S : Settings) (σ : State) (τ : tally.Tally) → rangesHold S ≡ true → limitHolds S ≡ true → Sound S (calls.ticked S σ) → σ .control .head < S .q
+    → ((x : ℕ) → x < S .n → τ .place x ≡ place S σ x) → Inv S (calls.ticked S σ) τ τ
+inv-new S σ τ ranges limit sound head-in places =
+    let pos : 0 < S .a = sound .ranges .a-low in
+    record {
+      ranges = ranges;
+      limit = limit;
+      sound = sound;
+      head-in = head-in;
+      passed-in = zero-le;
+      acts-in = zero-le;
+      counting = counting-new (S .k);
+      quarantines = omega (arith, quotients-new (S .a) (S .k));
+      passed-few = zero-le;
+      places = places;
+      homes = λ x b. rw (estimate-new (S .k) x) (elim (sound .inverse .forward x b) [
+        | inl e ↦ rw (eq-eqb (forwardOf σ x) empty e) (here (omega arith) pos)
+        | inr c ↦ rw (gone-none (S .q) (σ .control .head) (forwardOf σ x) (c .0)) (home-new (eqb (forwardOf σ x) empty) (τ .openings x) pos)
+      ]);
+      slots = λ s b. rw (estimate-new (S .k) (S .n + s), gone-none (S .q) (σ .control .head) s b) (slot-new (eqb (reverseOf σ s) empty) (τ .openings (S .n + s)) pos);
+    }
+
+-- ---- the number of an access, and what its answer holds
+
+pub number-is : (S : Settings) (σ : State) (r x : ℕ) (store filled buffer : List ℕ) → numberOf ((calls.answered S σ r x store filled buffer) .answer) ≡ x
+unfolding calls.answered
+number-is S σ r x store filled buffer = elim (split (eqb x 0)) [ inl e ↦ rw e (sym (eqb-true x 0 e)) | inr e ↦ rw e ]
+
+-- the number that the ladder gives for a call
+abbrev pub ladder : Settings → State → Call → ℕ
+ladder S σ (read r buffer) = accessNumber S σ r (readSpan S (length buffer))
+ladder S σ (write r column bytes) = accessNumber S σ r (writeSpan S column (length bytes))
+ladder S σ tick = tickNumber S σ
+ladder S σ (inspect r) = inspectNumber S σ r
+
+sound-ticked : {S : Settings} {σ : State} → Sound S σ → Sound S (calls.ticked S σ)
+sound-ticked {S} s =
+    record {
+      ranges = s .ranges;
+      lengths = record {
+        store = s .lengths .store;
+        forward = s .lengths .forward;
+        reverse = s .lengths .reverse;
+        rows = length-replicate (S .k) empty;
+        counts = length-replicate (S .k) 0;
+      };
+      inverse = record { forward = s .inverse .forward; reverse = s .inverse .reverse };
+    }
+
+module _ (S : Settings) (σ : State) (τ₀ τ : tally.Tally) (I : Inv S σ τ₀ τ) where
+  -- ---- the call ends the epoch, or the epoch runs on
+
+  abbrev pub Carried : Call → Step → Type 0
+  Carried c s =
+      ((tally.endsEpoch (record { call = c; answer = s .answer }) ≡ true)
+      × Inv S σ τ₀ (tally.feed S τ (record { call = c; answer = s .answer }))
+      × Inv S (s .state) (tally.feed S τ (record { call = c; answer = s .answer })) (tally.feed S τ (record { call = c; answer = s .answer })))
+      ⊎ ((tally.endsEpoch (record { call = c; answer = s .answer }) ≡ false)
+      × Inv S (s .state) τ₀ (tally.feed S τ (record { call = c; answer = s .answer })))
+
+  -- an accepted access, whose store after step 3 has its length
+  inv-access : (r : ℕ) (span : Bool) (store : List ℕ) → accessNumber S σ r span ≡ 0 → length store ≡ (S .n + S .q) * S .w
+      → Inv S (accessed S σ r store) τ₀ (tally.accessed S τ r (move S σ r))
+  inv-access r span store z long =
+      let A : Accepted S σ r span = accepted S σ r span z in
+      inv-settled S σ τ₀ τ I r (A .reached .row-in) (A .reached .more) store long (move S σ r) (plan S σ r) (A .room)
+
+  store-long : length (σ .store) ≡ (S .n + S .q) * S .w
+  store-long = I .sound .lengths .store
+
+  written-long : (r column : ℕ) (bytes : List ℕ) → accessNumber S σ r (writeSpan S column (length bytes)) ≡ 0
+      → length (written (S .w) (σ .store) (place S σ r) column bytes) ≡ (S .n + S .q) * S .w
+  written-long r column bytes z =
+      let A = accepted S σ r (writeSpan S column (length bytes)) z in
+      length-written (S .w) (S .n + S .q) (σ .store) (place S σ r) column bytes store-long (place-in S σ (I .sound) r (A .reached .row-in)) (leb-true (column + length bytes) (S .w) (A .reached .spans)) ∙ store-long
+
+  -- a read or a write of row r that answers number x
+  carried-access : (c : Call) (r x : ℕ) (store filled buffer : List ℕ) → tally.isTick c ≡ false → ((m : Move) → tally.accepted S τ c m ≡ tally.accessed S τ r m)
+      → (x ≡ 0 → Inv S (accessed S σ r store) τ₀ (tally.accessed S τ r (move S σ r))) → Carried c (ofAccess (calls.answered S σ r x store filled buffer))
+  unfolding calls.answered
+  carried-access c r x store filled buffer other counted inv =
+      elim (split (eqb x 0)) [
+        | inl e ↦ rw (e, other, counted (move S σ r)) (inr (refl, inv (eqb-true x 0 e)))
+        | inr e ↦ rw (e, e) (inr (refl, I))
+      ]
+
+  pub carried : (c : Call) → Carried c (step S σ c)
+  unfolding step calls.read calls.write calls.tick calls.noted
+  carried (read r buffer) =
+      let span : Bool = readSpan S (length buffer) in
+      carried-access (read r buffer) r (accessNumber S σ r span) (σ .store) (rowBytes (S .w) (σ .store) (place S σ r)) buffer refl (λ m. refl)
+      (λ z. inv-access r span (σ .store) z store-long)
+  carried (write r column bytes) =
+      let span : Bool = writeSpan S column (length bytes) in
+      let store : List ℕ = written (S .w) (σ .store) (place S σ r) column bytes in
+      carried-access (write r column bytes) r (accessNumber S σ r span) store [] [] refl (λ m. refl)
+      (λ z. inv-access r span store z (written-long r column bytes z))
+  carried tick =
+      elim (split (eqb (tickNumber S σ) 0)) [
+        | inl e ↦ rw e (inl (refl, I, inv-new S σ τ (I .ranges) (I .limit) (sound-ticked (I .sound)) (I .head-in) (I .places)))
+        | inr e ↦ rw e (inr (refl, I))
+      ]
+  carried (inspect r) =
+      elim (split (eqb (inspectNumber S σ r) 0)) [
+        | inl e ↦ rw e (inr (refl, I))
+        | inr e ↦ rw e (inr (refl, I))
+      ]
+
+  -- ---- the figures of an epoch that ends here, or runs on
+
+  pub bounded : Bounded S (record { first = τ₀; last = τ })
+  bounded =
+      record {
+        homes = λ r b. omega (arith, home-bound (I .homes r b));
+        slots = λ s b. omega (arith, slot-bound (I .slots s b));
+        quarantines = omega (arith, I .quarantines, quotients-few (I .counting) (S .a) (S .l) (I .sound .ranges .a-low) (I .acts-in));
+      }
+
+  -- ---- what is answered
+
+  -- the number is the ladder's
+  pub step-number : (c : Call) → (step S σ c) .answer .number ≡ ladder S σ c
+  unfolding step calls.read calls.write calls.tick calls.noted
+  step-number (read r buffer) = number-is S σ r _ _ _ _
+  step-number (write r column bytes) = number-is S σ r _ _ _ _
+  step-number tick = refl
+  step-number (inspect r) = refl
+
+  -- with slots enough it is not 9
+  access-not-9 : 2 * (S .l / S .a) ≤ S .q → (r : ℕ) (span : Bool) → accessNumber S σ r span ≡ 9 → ⊥
+  access-not-9 enough r span e =
+      let W : Wanting S σ r span = wanting S σ r span e in
+      never-wanting S σ τ₀ τ I r (W .reached .row-in) (W .reached .more) enough (W .moving) (W .full)
+
+  ladder-not-9 : 2 * (S .l / S .a) ≤ S .q → (c : Call) → ladder S σ c ≡ 9 → ⊥
+  ladder-not-9 enough (read r buffer) e = access-not-9 enough r (readSpan S (length buffer)) e
+  ladder-not-9 enough (write r column bytes) e = access-not-9 enough r (writeSpan S column (length bytes)) e
+  ladder-not-9 enough tick e = omega (arith, tick-most S σ)
+  ladder-not-9 enough (inspect r) e = omega (arith, inspect-most S σ r)
+
+  pub not-9 : 2 * (S .l / S .a) ≤ S .q → (c : Call) → (step S σ c) .answer .number ≡ 9 → ⊥
+  not-9 enough c e = ladder-not-9 enough c (sym (step-number c) ∙ e)
+
+  -- an accepted access answers the tally's place
+  place-is : (r x : ℕ) (span : Bool) (store filled buffer : List ℕ) → x ≡ accessNumber S σ r span → numberOf ((calls.answered S σ r x store filled buffer) .answer) ≡ 0
+      → placeOf ((calls.answered S σ r x store filled buffer) .answer) ≡ τ .place r
+  unfolding calls.answered
+  place-is r x span store filled buffer same z =
+      let accept : accessNumber S σ r span ≡ 0 = sym same ∙ sym (number-is S σ r x store filled buffer) ∙ z in
+      rw (eq-eqb x 0 (same ∙ accept)) (sym (I .places r (accepted S σ r span accept .reached .row-in)))
+
+  pub answers-place : (c : Call) → AccessAnswersPlace τ (record { call = c; answer = (step S σ c) .answer }) c
+  unfolding step calls.read calls.write
+  answers-place (read r buffer) = λ z. place-is r _ (readSpan S (length buffer)) _ _ _ refl z
+  answers-place (write r column bytes) = λ z. place-is r _ (writeSpan S column (length bytes)) _ _ _ refl z
+  answers-place tick = tt
+  answers-place (inspect r) = tt
+
+  -- ---- which numbers can be answered
+
+  tick-0 : tickNumber S σ ≡ 0
+  tick-0 =
+      tick-passes S σ
+      (record { ranges = I .ranges; limit = I .limit; lengths = lengths-hold S (lengthsOf σ) (I .sound .lengths) })
+      (steady-holds S σ
+      (record {
+        head-in = I .head-in;
+        passed-in = I .passed-in;
+        acts-in = I .acts-in;
+        spill-in = spill-within (I .counting);
+        spill-below = spill-below (I .counting) (S .a) (S .l) (I .acts-in) (limit-fact S (I .limit));
+      })
+      (count-within (I .counting)))
+
+  -- P holds of 0, 5, 6, 8 and 9
+  module _ (P : ℕ → Type 0) (p0 : P 0) (p5 : P 5) (p6 : P 6) (p8 : P 8) (p9 : P 9) where
+    seen-access : (r : ℕ) (span : Bool) → P (accessNumber S σ r span)
+    unfolding accessNumber
+    seen-access r span =
+        ladder-all P _ _ (rw tick-0 p0) (λ e.
+        ladder-all P _ _ (rung-all P _ 5 p0 p5) (λ row.
+        let row-in : r < S .n = ltb-true r (S .n) (held _ _ row) in
+        ladder-all P _ _ (rung-all P _ 6 p0 p6) (λ f.
+        ladder-all P _ _ (rw (holds 7 (row-holds S σ r (I .sound .inverse .forward r row-in))) p0) (λ g.
+        ladder-all P _ _ (rung-all P _ 8 p0 p8) (λ h.
+        ladder-all P _ _ (rung-all P _ 9 p0 p9) (λ k.
+        rw (holds 7 (unless-holds (moves S σ r) (destinationHolds S σ (destination S σ r)) (λ m. slot-holds S σ (destination S σ r) (I .sound .inverse .reverse (destination S σ r) (destination-in S σ r (I .head-in)))))) p0))))))
+
+    pub seen : (c : Call) → P (ladder S σ c)
+    unfolding inspectNumber
+    seen (read r buffer) = seen-access r (readSpan S (length buffer))
+    seen (write r column bytes) = seen-access r (writeSpan S column (length bytes))
+    seen tick = rw tick-0 p0
+    seen (inspect r) =
+        ladder-all P _ _ (rw tick-0 p0) (λ e.
+        ladder-all P _ _ (rung-all P _ 5 p0 p5) (λ row.
+        rw (holds 7 (row-holds S σ r (I .sound .inverse .forward r (ltb-true r (S .n) (held _ _ row))))) p0))

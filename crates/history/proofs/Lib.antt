@@ -1,0 +1,11 @@
+pub mod Session
+pub mod Tightness
+pub mod Window
+pub mod Openings
+pub mod Pointers
+pub mod Tallied
+pub mod Invariant
+pub mod Rows
+pub mod Access
+pub mod Calls
+pub mod History

@@ -1,0 +1,174 @@
+-- One access carries on what is known of every home row and of every slot. Assumes nothing.
+use Prim.Native.Nat.{ℕ, suc, _+_, _*_, _<_}
+use native.Mathlib.Omega.{arith}
+use mathlib.Core.Path.{_≡_, refl, sym, ap, _∙_, subst}
+use mathlib.Core.Logic.{_⊎_, inl, inr, _≢_}
+use mathlib.Core.Bool.{Bool, true, false, false≢true}
+use mathlib.Core.List.{List}
+use lib.Dec.{eqb}
+use lib.ListN.{getD}
+use borrow.Author.Tests.{ne-eqb, eq-eqb, eqb-true, eqb-false}
+use Rattle.geometry.specs.declared.Settings.{Settings}
+use Rattle.geometry.specs.Entry.{empty}
+use Rattle.geometry.proofs.Cases.{eq?}
+use Rattle.tracker.proofs.View.{Grew}
+use Rattle.engine.specs.declared.Move.the-variants.{Stayed}
+use Rattle.engine.specs.State.{State, forwardOf, reverseOf}
+use Rattle.engine.specs.Steps.{place}
+use Rattle.history.specs.Tally.{Tally, hit, accessed}
+use Rattle.history.proofs.Window.{Slide, slide-keeps}
+use Rattle.history.proofs.Openings.{Home, Slot, home-rests, home-opened, home-leaves, home-returns, home-skipped, slot-rests, slot-opened, slot-filled, slot-leaves}
+use Rattle.history.proofs.Pointers.{Sound, Relinked, marks-none, place-is}
+use Rattle.history.proofs.Tallied.{Tallied, hit-home, hit-slot, hit-here, hit-away, hit-own}
+use Rattle.history.proofs.Invariant.{Inv, estimate, gone, HomeKept, SlotKept}
+
+-- the estimates before and after an access of place p
+pub record Estimated (S : Settings) (σ σ′ : State) (p : ℕ) : Type 0 where
+  pub same : estimate σ′ p ≡ suc (estimate σ p)
+  pub other : (x : ℕ) → x ≢ p → x ≢ empty → Grew (S .a) (estimate σ x) (estimate σ′ x)
+
+-- slot s holds the moving row
+abbrev pub own : State → ℕ → ℕ → Bool
+own σ r s = eqb (forwardOf σ r) s
+
+module _ (S : Settings) (σ : State) (τ₀ τ : Tally) (I : Inv S σ τ₀ τ) (r : ℕ) (row-in : r < S .n) (σ′ : State) (E : Estimated S σ σ′ (place S σ r)) where
+  real : (x : ℕ) → x < S .n + S .q → x ≢ empty
+  real = marks-none S (I .sound .ranges)
+
+  pos : 0 < S .a
+  pos = I .sound .ranges .a-low
+
+  p-is : ((forwardOf σ r ≡ empty) × (place S σ r ≡ r)) ⊎ ((forwardOf σ r < S .q) × (place S σ r ≡ S .n + forwardOf σ r))
+  p-is = place-is S σ (I .sound) r row-in
+
+  -- the estimate of a row that is not r's place
+  grew-home : (x : ℕ) → x < S .n → x ≢ r → Grew (S .a) (estimate σ x) (estimate σ′ x)
+  grew-home x b n = E .other x (λ e. elim p-is [ inl c ↦ n (e ∙ c .1) | inr c ↦ omega (arith, c .1) ]) (real x (omega arith))
+
+  grew-slot : (s : ℕ) → s < S .q → s ≢ forwardOf σ r → Grew (S .a) (estimate σ (S .n + s)) (estimate σ′ (S .n + s))
+  grew-slot s b n = E .other (S .n + s) (λ e. elim p-is [ inl c ↦ omega (arith, c .1) | inr c ↦ n (omega (arith, c .1)) ]) (real (S .n + s) (omega arith))
+
+  same-at : (x : ℕ) → x ≡ place S σ r → estimate σ′ x ≡ suc (estimate σ x)
+  same-at x e = rw e (E .same)
+
+  -- a slot that holds r is not empty
+  held : (s : ℕ) → reverseOf σ s ≡ r → eqb (reverseOf σ s) empty ≡ false
+  held s e = ne-eqb (reverseOf σ s) empty (λ z. real r (omega arith) (sym e ∙ z))
+
+  own-slot : forwardOf σ r < S .q → reverseOf σ (forwardOf σ r) ≡ r
+  own-slot b = elim (I .sound .inverse .forward r row-in) [ inl z ↦ absurd (real (forwardOf σ r) (omega arith) z) | inr c ↦ c .1 ]
+
+  -- ---- the row stays
+
+  module _ (rests : (m : ℕ) → 0 < m → estimate σ′ (place S σ r) ≢ m * S .a) where
+    multiple : (x m : ℕ) → x ≡ place S σ r → 0 < m → estimate σ′ x ≢ m * S .a
+    multiple x m e b = rw e (rests m b)
+
+    pub home-stays : (x : ℕ) → x < S .n
+        → Home (S .a) ((accessed S τ r Stayed) .openings x) (τ₀ .openings x) (estimate σ′ x) (eqb (forwardOf σ x) empty) (gone S σ (forwardOf σ x))
+    home-stays x b =
+        elim (eq? x r) [
+          | inr n ↦ home-rests (gone S σ (forwardOf σ x)) (I .homes x b) (λ h g. g) (omega (arith, hit-home S σ (I .sound) τ r row-in (I .places r row-in) x b n)) (grew-home x b n)
+          | inl e ↦ rw e (elim p-is [
+            | inl c ↦
+                let t : eqb (forwardOf σ r) empty ≡ true = eq-eqb (forwardOf σ r) empty (c .0) in
+                rw t (home-opened (rw t at (I .homes r row-in)) (omega (arith, hit-here S σ (I .sound) τ r row-in (I .places r row-in) (c .0))) (same-at r (sym (c .1))) (multiple r 1 (sym (c .1)) (omega arith)))
+            | inr c ↦
+                home-rests (gone S σ (forwardOf σ r)) (I .homes r row-in) (λ h g. g)
+                (omega (arith, hit-away S σ (I .sound) τ r row-in (I .places r row-in) (c .0)))
+                (E .other r (λ e. omega (arith, c .1)) (real r (omega arith)))
+          ])
+        ]
+
+    pub slot-stays : (s : ℕ) → s < S .q
+        → Slot (S .a) ((accessed S τ r Stayed) .openings (S .n + s)) (τ₀ .openings (S .n + s)) (estimate σ′ (S .n + s)) (gone S σ s) (eqb (reverseOf σ s) empty)
+    slot-stays s b =
+        elim (eq? s (forwardOf σ r)) [
+          | inr n ↦ slot-rests pos (I .slots s b) (omega (arith, hit-slot S σ (I .sound) τ r row-in (I .places r row-in) s n)) (grew-slot s b n)
+          | inl e ↦
+              let c : forwardOf σ r < S .q = rw e at b in
+              let at : S .n + s ≡ place S σ r = elim p-is [ inl k ↦ absurd (real s (omega arith) (e ∙ k .0)) | inr k ↦ omega (arith, k .1) ] in
+              let t : eqb (reverseOf σ s) empty ≡ false = held s (ap (reverseOf σ) e ∙ own-slot c) in
+              let one : hit (τ .place r) (S .n + s) ≡ 1 = rw e (hit-own S σ (I .sound) τ r row-in (I .places r row-in) c) in
+              rw t (slot-opened (rw t at (I .slots s b)) (omega arith) (same-at (S .n + s) at) (multiple (S .n + s) 1 at (omega arith)) (multiple (S .n + s) 2 at (omega arith)))
+        ]
+
+  -- ---- the row moves to slot d
+
+  module _ (d : ℕ) (τ′ : Tally) (L : Relinked S σ r d (σ′ .forward) (σ′ .reverse)) (T : Tallied S σ τ τ′ r d)
+      (sl : Slide (own σ r) (S .q) (σ .control .head) (σ .control .passed) d (σ′ .control .head) (σ′ .control .passed)) where
+    d-real : eqb d empty ≡ false
+    d-real = ne-eqb d empty (real d (omega (arith, sl .inside)))
+
+    d-other : d ≢ forwardOf σ r
+    d-other e = eqb-false (forwardOf σ r) d (sl .free) (sym e)
+
+    pub place-moves : (x : ℕ) → x < S .n → τ′ .place x ≡ place S σ′ x
+    place-moves x b =
+        elim (eq? x r) [
+          | inl e ↦ rw (e, L .mover, d-real) (T .mover)
+          | inr n ↦ elim (eq? (forwardOf σ x) d) [
+            | inl e ↦ rw (L .evicted x b n e) (T .evicted x b n e)
+            | inr m ↦ rw (L .rest x b n m) (T .rest x b n m ∙ I .places x b)
+          ]
+        ]
+
+    home-r : HomeKept S σ′ τ₀ τ′ r
+    home-r =
+        rw (L .mover, d-real, sl .filled)
+        (elim p-is [
+          | inl c ↦
+              let t : eqb (forwardOf σ r) empty ≡ true = eq-eqb (forwardOf σ r) empty (c .0) in
+              home-leaves (rw t at (I .homes r row-in)) (T .home-mover (c .0))
+          | inr c ↦
+              let t : eqb (forwardOf σ r) empty ≡ false = ne-eqb (forwardOf σ r) empty (real (forwardOf σ r) (omega (arith, c .0))) in
+              home-skipped (rw t at (I .homes r row-in)) (T .home-absent (c .0))
+        ])
+
+    -- a row in a slot that is gone by stays in one
+    stays-gone : (x : ℕ) → x < S .n → eqb (forwardOf σ x) empty ≡ false → gone S σ (forwardOf σ x) ≡ true → gone S σ′ (forwardOf σ x) ≡ true
+    stays-gone x b f g =
+        elim (I .sound .inverse .forward x b) [
+          | inl z ↦ absurd (eqb-false (forwardOf σ x) empty f z)
+          | inr c ↦ slide-keeps (own σ r) (S .q) (σ .control .head) (σ .control .passed) d (σ′ .control .head) (σ′ .control .passed) sl (forwardOf σ x) (c .0) g
+        ]
+
+    pub home-moves : (x : ℕ) → x < S .n → HomeKept S σ′ τ₀ τ′ x
+    home-moves x b =
+        elim (eq? x r) [
+          | inl e ↦ subst (λ (y : ℕ). HomeKept S σ′ τ₀ τ′ y) (sym e) home-r
+          | inr n ↦ elim (eq? (forwardOf σ x) d) [
+            | inl e ↦
+                let here : HomeKept S σ τ₀ τ x = I .homes x b in
+                rw (L .evicted x b n e) (home-returns (rw (e, d-real, sl .ahead) at here) (T .home-evicted x b n e) (grew-home x b n))
+            | inr m ↦ rw (L .rest x b n m) (home-rests (gone S σ′ (forwardOf σ x)) (I .homes x b) (stays-gone x b) (T .home-rest x b n m) (grew-home x b n))
+          ]
+        ]
+
+    slot-d : SlotKept S σ′ τ₀ τ′ d
+    slot-d =
+        let t : eqb r empty ≡ false = ne-eqb r empty (real r (omega arith)) in
+        rw (L .filled, t, sl .filled) (slot-filled pos (rw (sl .ahead) at (I .slots d (sl .inside))) (T .slot-filled) (grew-slot d (sl .inside) d-other))
+
+    slot-own : forwardOf σ r < S .q → SlotKept S σ′ τ₀ τ′ (forwardOf σ r)
+    slot-own b =
+        let at : S .n + forwardOf σ r ≡ place S σ r = elim p-is [ inl k ↦ absurd (real (forwardOf σ r) (omega arith) (k .0)) | inr k ↦ sym (k .1) ] in
+        let t : eqb (reverseOf σ (forwardOf σ r)) empty ≡ false = held (forwardOf σ r) (own-slot b) in
+        rw (L .freed b)
+        (slot-leaves (gone S σ′ (forwardOf σ r))
+        (slide-keeps (own σ r) (S .q) (σ .control .head) (σ .control .passed) d (σ′ .control .head) (σ′ .control .passed) sl (forwardOf σ r) b)
+        (rw t at (I .slots (forwardOf σ r) b))
+        (T .slot-freed b)
+        (same-at (S .n + forwardOf σ r) at))
+
+    pub slot-moves : (s : ℕ) → s < S .q → SlotKept S σ′ τ₀ τ′ s
+    slot-moves s b =
+        elim (eq? s d) [
+          | inl e ↦ subst (λ (y : ℕ). SlotKept S σ′ τ₀ τ′ y) (sym e) slot-d
+          | inr n ↦ elim (eq? s (forwardOf σ r)) [
+            | inl e ↦ subst (λ (y : ℕ). SlotKept S σ′ τ₀ τ′ y) (sym e) (slot-own (rw e at b))
+            | inr m ↦
+                let g : gone S σ′ s ≡ gone S σ s = elim (sl .others s b n) [ inl k ↦ k | inr k ↦ absurd (m (sym (eqb-true (forwardOf σ r) s (k .1)))) ] in
+                rw (L .others s n m, g) (slot-rests pos (I .slots s b) (T .slot-others s b n m) (grew-slot s b m))
+          ]
+        ]

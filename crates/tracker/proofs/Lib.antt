@@ -1,0 +1,4 @@
+pub mod Scans
+pub mod Sums
+pub mod Tracking
+pub mod View
