@@ -1,2 +1,5 @@
 pub mod Rungs
 pub mod Facts
+pub mod Window
+pub mod Pointers
+pub mod Moves

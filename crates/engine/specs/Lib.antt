@@ -3,3 +3,4 @@ pub mod Answer
 pub mod Steps
 pub mod Ladder
 pub mod Calls
+pub mod Tables

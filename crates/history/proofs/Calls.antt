@@ -30,13 +30,14 @@ use Rattle.engine.proofs.Rungs.{held, holds, rung-all, ladder-all, unless-holds
 use Rattle.engine.proofs.Facts.{Fit, fit, Steady, steady-holds, tick-passes, tick-most, inspect-most, row-holds, slot-holds, Accepted, accepted, Wanting, wanting, inspected}
 use Rattle.history.specs.Run.{Call, read, write, tick, inspect, Step, Event, ofAccess, ofNoted, bare, step}
 use Rattle.history.specs.Tally as tally
-use Rattle.history.specs.Demand2.{Inverse}
+use Rattle.engine.specs.Tables.{Inverse}
 use Rattle.history.specs.Demand3.{Bounded, AccessAnswersPlace}
-use Rattle.history.proofs.Window.{gone-none}
+use Rattle.engine.proofs.Window.{gone-none}
 use Rattle.history.proofs.Openings.{here, home-bound, home-new, slot-bound, slot-new}
-use Rattle.history.proofs.Pointers.{Sound, marks-none, place-in}
+use Rattle.engine.proofs.Pointers.{Sound, marks-none, place-in}
 use Rattle.history.proofs.Invariant.{Inv, estimate, gone}
-use Rattle.history.proofs.Access.{destination-in, plan, inv-settled, never-wanting}
+use Rattle.engine.proofs.Moves.{destination-in}
+use Rattle.history.proofs.Access.{inv-access, never-wanting}
 
 -- ---- a new epoch: tables as they stand, a tracker as set up, nothing gone by
 
@@ -75,7 +76,15 @@ ladder S σ (write r column bytes) = accessNumber S σ r (writeSpan S column (le
 ladder S σ tick = tickNumber S σ
 ladder S σ (inspect r) = inspectNumber S σ r
 
-sound-ticked : {S : Settings} {σ : State} → Sound S σ → Sound S (calls.ticked S σ)
+-- the number is the ladder's
+pub step-number : (S : Settings) (σ : State) (c : Call) → (step S σ c) .answer .number ≡ ladder S σ c
+unfolding step calls.read calls.write calls.tick calls.noted
+step-number S σ (read r buffer) = number-is S σ r _ _ _ _
+step-number S σ (write r column bytes) = number-is S σ r _ _ _ _
+step-number S σ tick = refl
+step-number S σ (inspect r) = refl
+
+pub sound-ticked : {S : Settings} {σ : State} → Sound S σ → Sound S (calls.ticked S σ)
 sound-ticked {S} s =
     record {
       ranges = s .ranges;
@@ -101,16 +110,16 @@ module _ (S : Settings) (σ : State) (τ₀ τ : tally.Tally) (I : Inv S σ τ�
       × Inv S (s .state) τ₀ (tally.feed S τ (record { call = c; answer = s .answer })))
 
   -- an accepted access, whose store after step 3 has its length
-  inv-access : (r : ℕ) (span : Bool) (store : List ℕ) → accessNumber S σ r span ≡ 0 → length store ≡ (S .n + S .q) * S .w
+  inv-accepted : (r : ℕ) (span : Bool) (store : List ℕ) → accessNumber S σ r span ≡ 0 → length store ≡ (S .n + S .q) * S .w
       → Inv S (accessed S σ r store) τ₀ (tally.accessed S τ r (move S σ r))
-  inv-access r span store z long =
+  inv-accepted r span store z long =
       let A : Accepted S σ r span = accepted S σ r span z in
-      inv-settled S σ τ₀ τ I r (A .reached .row-in) (A .reached .more) store long (move S σ r) (plan S σ r) (A .room)
+      inv-access S σ τ₀ τ I r (A .reached .row-in) (A .reached .more) (A .room) store long
 
-  store-long : length (σ .store) ≡ (S .n + S .q) * S .w
+  pub store-long : length (σ .store) ≡ (S .n + S .q) * S .w
   store-long = I .sound .lengths .store
 
-  written-long : (r column : ℕ) (bytes : List ℕ) → accessNumber S σ r (writeSpan S column (length bytes)) ≡ 0
+  pub written-long : (r column : ℕ) (bytes : List ℕ) → accessNumber S σ r (writeSpan S column (length bytes)) ≡ 0
       → length (written (S .w) (σ .store) (place S σ r) column bytes) ≡ (S .n + S .q) * S .w
   written-long r column bytes z =
       let A = accepted S σ r (writeSpan S column (length bytes)) z in
@@ -131,12 +140,12 @@ module _ (S : Settings) (σ : State) (τ₀ τ : tally.Tally) (I : Inv S σ τ�
   carried (read r buffer) =
       let span : Bool = readSpan S (length buffer) in
       carried-access (read r buffer) r (accessNumber S σ r span) (σ .store) (rowBytes (S .w) (σ .store) (place S σ r)) buffer refl (λ m. refl)
-      (λ z. inv-access r span (σ .store) z store-long)
+      (λ z. inv-accepted r span (σ .store) z store-long)
   carried (write r column bytes) =
       let span : Bool = writeSpan S column (length bytes) in
       let store : List ℕ = written (S .w) (σ .store) (place S σ r) column bytes in
       carried-access (write r column bytes) r (accessNumber S σ r span) store [] [] refl (λ m. refl)
-      (λ z. inv-access r span store z (written-long r column bytes z))
+      (λ z. inv-accepted r span store z (written-long r column bytes z))
   carried tick =
       elim (split (eqb (tickNumber S σ) 0)) [
         | inl e ↦ rw e (inl (refl, I, inv-new S σ τ (I .ranges) (I .limit) (sound-ticked (I .sound)) (I .head-in) (I .places)))
@@ -160,14 +169,6 @@ module _ (S : Settings) (σ : State) (τ₀ τ : tally.Tally) (I : Inv S σ τ�
 
   -- ---- what is answered
 
-  -- the number is the ladder's
-  pub step-number : (c : Call) → (step S σ c) .answer .number ≡ ladder S σ c
-  unfolding step calls.read calls.write calls.tick calls.noted
-  step-number (read r buffer) = number-is S σ r _ _ _ _
-  step-number (write r column bytes) = number-is S σ r _ _ _ _
-  step-number tick = refl
-  step-number (inspect r) = refl
-
   -- with slots enough it is not 9
   access-not-9 : 2 * (S .l / S .a) ≤ S .q → (r : ℕ) (span : Bool) → accessNumber S σ r span ≡ 9 → ⊥
   access-not-9 enough r span e =
@@ -181,7 +182,7 @@ module _ (S : Settings) (σ : State) (τ₀ τ : tally.Tally) (I : Inv S σ τ�
   ladder-not-9 enough (inspect r) e = omega (arith, inspect-most S σ r)
 
   pub not-9 : 2 * (S .l / S .a) ≤ S .q → (c : Call) → (step S σ c) .answer .number ≡ 9 → ⊥
-  not-9 enough c e = ladder-not-9 enough c (sym (step-number c) ∙ e)
+  not-9 enough c e = ladder-not-9 enough c (sym (step-number S σ c) ∙ e)
 
   -- an accepted access answers the tally's place
   place-is : (r x : ℕ) (span : Bool) (store filled buffer : List ℕ) → x ≡ accessNumber S σ r span → numberOf ((calls.answered S σ r x store filled buffer) .answer) ≡ 0

@@ -114,7 +114,7 @@ tables-inverse S σ cs z = inv-run S cs ((calls.setUp S σ) .state) tally.start 
 pub only-seen : OnlySeen
 only-seen S σ cs z =
     each S Seen
-    (λ σ τ₀ τ I c. rw (step-number S σ τ₀ τ I c)
+    (λ σ τ₀ τ I c. rw (step-number S σ c)
     (seen S σ τ₀ τ I (λ x. (x ≡ 0) ⊎ ((x ≡ 5) ⊎ ((x ≡ 6) ⊎ ((x ≡ 8) ⊎ (x ≡ 9)))))
     (inl refl) (inr (inl refl)) (inr (inr (inl refl))) (inr (inr (inr (inl refl)))) (inr (inr (inr (inr refl)))) c))
     cs ((calls.setUp S σ) .state) tally.start tally.start (inv-set-up S σ z)

@@ -12,9 +12,9 @@ use Rattle.tracker.proofs.View.{Counting}
 use Rattle.engine.specs.State.{State, forwardOf, reverseOf}
 use Rattle.engine.specs.Steps.{place}
 use Rattle.history.specs.Tally.{Tally}
-use Rattle.history.proofs.Window.{goneBy}
+use Rattle.engine.proofs.Window.{goneBy}
 use Rattle.history.proofs.Openings.{Home, Slot}
-use Rattle.history.proofs.Pointers.{Sound}
+use Rattle.engine.proofs.Pointers.{Sound}
 
 -- the tracker's estimate of a physical row
 abbrev pub estimate : State → ℕ → ℕ

@@ -1,11 +1,12 @@
 pub mod Session
 pub mod Tightness
-pub mod Window
 pub mod Openings
-pub mod Pointers
 pub mod Tallied
 pub mod Invariant
 pub mod Rows
 pub mod Access
+pub mod Bytes
 pub mod Calls
 pub mod History
+pub mod AfterTick
+pub mod Memory

@@ -16,9 +16,10 @@ use Rattle.engine.specs.declared.Move.the-variants.{Stayed}
 use Rattle.engine.specs.State.{State, forwardOf, reverseOf}
 use Rattle.engine.specs.Steps.{place}
 use Rattle.history.specs.Tally.{Tally, hit, accessed}
-use Rattle.history.proofs.Window.{Slide, slide-keeps}
+use Rattle.engine.proofs.Window.{Slide, slide-keeps}
 use Rattle.history.proofs.Openings.{Home, Slot, home-rests, home-opened, home-leaves, home-returns, home-skipped, slot-rests, slot-opened, slot-filled, slot-leaves}
-use Rattle.history.proofs.Pointers.{Sound, Relinked, marks-none, place-is}
+use Rattle.engine.proofs.Pointers.{Sound, Relinked, marks-none, place-is}
+use Rattle.engine.proofs.Moves.{own}
 use Rattle.history.proofs.Tallied.{Tallied, hit-home, hit-slot, hit-here, hit-away, hit-own}
 use Rattle.history.proofs.Invariant.{Inv, estimate, gone, HomeKept, SlotKept}
 
@@ -26,10 +27,6 @@ use Rattle.history.proofs.Invariant.{Inv, estimate, gone, HomeKept, Slo
 pub record Estimated (S : Settings) (σ σ′ : State) (p : ℕ) : Type 0 where
   pub same : estimate σ′ p ≡ suc (estimate σ p)
   pub other : (x : ℕ) → x ≢ p → x ≢ empty → Grew (S .a) (estimate σ x) (estimate σ′ x)
-
--- slot s holds the moving row
-abbrev pub own : State → ℕ → ℕ → Bool
-own σ r s = eqb (forwardOf σ r) s
 
 module _ (S : Settings) (σ : State) (τ₀ τ : Tally) (I : Inv S σ τ₀ τ) (r : ℕ) (row-in : r < S .n) (σ′ : State) (E : Estimated S σ σ′ (place S σ r)) where
   real : (x : ℕ) → x < S .n + S .q → x ≢ empty

@@ -14,7 +14,7 @@ use Rattle.engine.specs.State.{State, forwardOf, reverseOf}
 use Rattle.engine.specs.Steps.{place}
 use Rattle.history.specs.Tally.{Tally, hit, accessed}
 use Rattle.history.proofs.Openings.{hit-same, hit-other}
-use Rattle.history.proofs.Pointers.{Sound, marks-none, place-is}
+use Rattle.engine.proofs.Pointers.{Sound, marks-none, place-is}
 
 -- row r is moved to slot d: τ before, τ′ after
 pub record Tallied (S : Settings) (σ : State) (τ τ′ : Tally) (r d : ℕ) : Type 0 where

@@ -9,18 +9,12 @@ use lib.Dec.{ltb, leb, eqb}
 use lib.ListN.{length, getD}
 use Rattle.geometry.specs.declared.Settings.{Settings}
 use Rattle.geometry.specs.Numbering.{homeRow}
-use Rattle.geometry.specs.Entry.{empty}
-use Rattle.engine.specs.State.{State, forwardOf, reverseOf}
+use Rattle.engine.specs.State.{State}
 use Rattle.engine.specs.Calls.{setUp}
+use Rattle.engine.specs.Tables.{Inverse}
 use Rattle.history.specs.Run.{Call, read, write, tick, inspect, Event, step, run, events, Each}
 
 -- ---- 'forward and reverse tables are inverse'
-
-pub record Inverse (S : Settings) (σ : State) : Type 0 where
-  -- a row's forward entry is empty, or a slot whose reverse entry is the row
-  pub forward : (r : ℕ) → r < S .n → (forwardOf σ r ≡ empty) ⊎ ((forwardOf σ r < S .q) × (reverseOf σ (forwardOf σ r) ≡ r))
-  -- a slot's reverse entry is empty, or a row whose forward entry is the slot
-  pub reverse : (s : ℕ) → s < S .q → (reverseOf σ s ≡ empty) ⊎ ((reverseOf σ s < S .n) × (forwardOf σ (reverseOf σ s) ≡ s))
 
 -- after every list of calls
 abbrev pub TablesInverse : Type 0

@@ -13,9 +13,9 @@ use Rattle.geometry.specs.declared.Settings.{Settings}
 use Rattle.geometry.specs.Entry.{empty}
 use Rattle.geometry.proofs.Cases.{split, eq?}
 use Rattle.geometry.proofs.Facts.{Ranges, Exact}
 use Rattle.engine.specs.State.{State, lengthsOf, forwardOf, reverseOf}
 use Rattle.engine.specs.Steps.{placeBy, place, left}
-use Rattle.history.specs.Demand2.{Inverse}
+use Rattle.engine.specs.Tables.{Inverse}
 
 -- settings in their ranges, tables of their lengths, and inverse
 pub record Sound (S : Settings) (σ : State) : Type 0 where

@@ -1,0 +1,220 @@
+-- What an accepted access leaves in all that is lent, told without its steps. Assumes nothing.
+use Prim.Native.Nat.{ℕ, suc, _+_, _*_, _%_, _<_, _≤_}
+use native.Mathlib.Omega.{arith}
+use mathlib.Core.Path.{_≡_, refl, sym, ap, _∙_}
+use mathlib.Core.Logic.{_⊎_, inl, inr, _≢_}
+use mathlib.Core.Bool.{Bool, true, false}
+use mathlib.Core.List.{List}
+use lib.Dec.{eqb}
+use lib.ListN.{length, set, length-set}
+use borrow.Author.Tests.{eqb-true, eqb-false, ne-eqb}
+use Rattle.geometry.specs.declared.Settings.{Settings}
+use Rattle.geometry.specs.Numbering.{visible, slot}
+use Rattle.geometry.specs.Entry.{empty}
+use Rattle.geometry.proofs.Cases.{split}
+use Rattle.geometry.proofs.Facts.{Exact}
+use Rattle.tracker.proofs.View.{Counting, Tracks, tracks}
+use Rattle.rows.specs.Bytes.{copied}
+use Rattle.rows.proofs.Laws.{byteAt, length-copied, copied-to, copied-other}
+use Rattle.engine.specs.declared.Move.{Move}
+use Rattle.engine.specs.declared.Move.the-variants.{Stayed, ToSlot, OverSlot}
+use Rattle.engine.specs.State.{State, lengthsOf, forwardOf, reverseOf}
+use Rattle.engine.specs.Steps.{place, tracked, moves, sitsAtHead, destination, rise, move, left, settled}
+use Rattle.engine.proofs.Window.{Slide, slide-one, slide-more, next-is, next-in}
+use Rattle.engine.proofs.Pointers.{Sound, Relinked, marks-none, place-is, place-in, left-long, holder, relinked-to, relinked-over}
+
+-- ---- where an access leaves its row, with what decides it
+
+pub data Plan (S : Settings) (σ : State) (r : ℕ) : Move → Type 0 where
+  rests : moves S σ r ≡ false → Plan S σ r Stayed
+  fills : moves S σ r ≡ true → reverseOf σ (destination S σ r) ≡ empty → Plan S σ r (ToSlot (slot (destination S σ r)))
+  evicts : moves S σ r ≡ true → reverseOf σ (destination S σ r) ≢ empty
+      → Plan S σ r (OverSlot (slot (destination S σ r)) (visible (reverseOf σ (destination S σ r))))
+
+pub plan : (S : Settings) (σ : State) (r : ℕ) → Plan S σ r (move S σ r)
+unfolding move
+plan S σ r =
+    elim (split (moves S σ r)) [
+      | inl e ↦ elim (split (eqb (reverseOf σ (destination S σ r)) empty)) [
+        | inl k ↦ rw (e, k) (fills e (eqb-true (reverseOf σ (destination S σ r)) empty k))
+        | inr k ↦ rw (e, k) (evicts e (eqb-false (reverseOf σ (destination S σ r)) empty k))
+      ]
+      | inr e ↦ rw e (rests e)
+    ]
+
+-- ---- the head
+
+-- slot s holds the moving row
+abbrev pub own : State → ℕ → ℕ → Bool
+own σ r s = eqb (forwardOf σ r) s
+
+pub rise-most : (σ : State) (r : ℕ) → rise σ r ≤ 2
+unfolding rise
+rise-most σ r = elim (split (sitsAtHead σ r)) [ inl e ↦ rw e (omega arith) | inr e ↦ rw e (omega arith) ]
+
+pub destination-in : (S : Settings) (σ : State) (r : ℕ) → σ .control .head < S .q → destination S σ r < S .q
+unfolding destination
+destination-in S σ r b = elim (split (sitsAtHead σ r)) [ inl e ↦ rw e (next-in (S .q) (σ .control .head) b) | inr e ↦ rw e b ]
+
+next-apart : (q h : ℕ) → h < q → 2 ≤ q → h ≢ (h + 1) % q
+next-apart q h b two e = elim (next-is q h b) [ inl c ↦ omega (arith, c .1) | inr c ↦ omega (arith, c .0, c .1) ]
+
+slide : (S : Settings) (σ : State) (r : ℕ) → 2 ≤ S .q → σ .control .head < S .q → σ .control .passed + rise σ r ≤ S .q
+    → Slide (own σ r) (S .q) (σ .control .head) (σ .control .passed) (destination S σ r) ((destination S σ r + 1) % S .q) (σ .control .passed + rise σ r)
+unfolding destination rise
+slide S σ r two b room =
+    let h : ℕ = σ .control .head in
+    let m : ℕ = σ .control .passed in
+    elim (split (sitsAtHead σ r)) [
+      | inl e ↦
+          let at : forwardOf σ r ≡ h = eqb-true (forwardOf σ r) h e in
+          let free : own σ r ((h + 1) % S .q) ≡ false = rw at (ne-eqb h ((h + 1) % S .q) (next-apart (S .q) h b two)) in
+          let more : m + 2 ≤ S .q = rw e at room in
+          let two′ : m + 2 ≡ m + 1 + 1 = omega arith in
+          rw (e, two′)
+          (slide-more (own σ r) (S .q) h m ((h + 1) % S .q) (((h + 1) % S .q + 1) % S .q) (m + 1 + 1) b e
+          (slide-one (own σ r) (S .q) ((h + 1) % S .q) (m + 1) (next-in (S .q) h b) (omega arith) free))
+      | inr e ↦
+          let more : m + 1 ≤ S .q = rw e at room in
+          rw e (slide-one (own σ r) (S .q) h m b (omega arith) e)
+    ]
+
+-- ---- the bytes
+
+-- row r goes to slot d: the bytes that the copies leave (store: before them, after: after them)
+pub record Carried (S : Settings) (σ : State) (r d : ℕ) (store after : List ℕ) : Type 0 where
+  pub target : (c : ℕ) → c < S .w → byteAt (S .w) after (S .n + d) c ≡ byteAt (S .w) store (place S σ r) c
+  -- the row that slot d held is sent home
+  pub home : (x c : ℕ) → x < S .n → forwardOf σ x ≡ d → c < S .w → byteAt (S .w) after x c ≡ byteAt (S .w) store (S .n + d) c
+  pub rest : (p c : ℕ) → p ≢ S .n + d → ((x : ℕ) → x < S .n → forwardOf σ x ≡ d → p ≢ x) → c < S .w
+      → byteAt (S .w) after p c ≡ byteAt (S .w) store p c
+
+-- ---- the whole
+
+-- row r was moved to slot d; σ′: what the access left; store: the store after step 3
+pub record Moved (S : Settings) (σ : State) (r : ℕ) (store : List ℕ) (d : ℕ) (σ′ : State) : Type 0 where
+  pub slide : Slide (own σ r) (S .q) (σ .control .head) (σ .control .passed) d (σ′ .control .head) (σ′ .control .passed)
+  pub head-in : σ′ .control .head < S .q
+  pub passed : σ′ .control .passed ≡ σ .control .passed + rise σ r
+  pub lengths : Exact S (lengthsOf σ′)
+  pub links : Relinked S σ r d (σ′ .forward) (σ′ .reverse)
+  pub bytes : Carried S σ r d store (σ′ .store)
+
+module _ (S : Settings) (σ : State) (sound : Sound S σ) (r : ℕ) (row-in : r < S .n) where
+  -- the tracker, wherever the row is left
+  pub tracks-access : S .l < S .a * (S .k + 1) → σ .control .acts < S .l → Counting (S .k) (σ .rows) (σ .counts) (σ .control .spill) (σ .control .acts)
+      → Tracks (S .a) (S .k) (place S σ r) (σ .rows) (σ .counts) (σ .control .spill) (σ .control .acts) (tracked S σ r)
+  tracks-access few more C =
+      tracks (S .a) (S .k) (S .l) (place S σ r) (σ .rows) (σ .counts) (σ .control .spill) (σ .control .acts) (sound .ranges .a-low) few more C
+
+  pub counting-settled : (store : List ℕ) (m : Move) → Tracks (S .a) (S .k) (place S σ r) (σ .rows) (σ .counts) (σ .control .spill) (σ .control .acts) (tracked S σ r)
+      → Counting (S .k) ((settled S σ r store m) .rows) ((settled S σ r store m) .counts) ((settled S σ r store m) .control .spill) ((settled S σ r store m) .control .acts)
+  counting-settled store m T = T .after
+
+  p-in : place S σ r < S .n + S .q
+  p-in = place-in S σ sound r row-in
+
+  -- a row in another slot than d, or in none, is not at the home of the row that slot d holds
+  pub not-home : (d : ℕ) → forwardOf σ r ≢ d → (y : ℕ) → y < S .n → forwardOf σ y ≡ d → place S σ r ≢ y
+  not-home d n y y-in at e =
+      elim (place-is S σ sound r row-in) [ inl a ↦ n (ap (forwardOf σ) (sym (a .1) ∙ e) ∙ at) | inr a ↦ omega (arith, a .1) ]
+
+  module _ (T : Tracks (S .a) (S .k) (place S σ r) (σ .rows) (σ .counts) (σ .control .spill) (σ .control .acts) (tracked S σ r))
+      (store : List ℕ) (long : length store ≡ (S .n + S .q) * S .w) (d : ℕ)
+      (sl : Slide (own σ r) (S .q) (σ .control .head) (σ .control .passed) d ((d + 1) % S .q) (σ .control .passed + rise σ r)) where
+    free : d ≢ forwardOf σ r
+    free e = eqb-false (forwardOf σ r) d (sl .free) (sym e)
+
+    target-in : S .n + d < S .n + S .q
+    target-in = omega (arith, sl .inside)
+
+    reverse-long : length (set (left (σ .reverse) (forwardOf σ r)) d r) ≡ S .q
+    reverse-long = length-set (left (σ .reverse) (forwardOf σ r)) d r ∙ left-long S σ sound r row-in d (sl .inside) free
+
+    -- to an empty slot
+    moved-to : reverseOf σ d ≡ empty → Moved S σ r store d (settled S σ r store (ToSlot (slot d)))
+    moved-to vacant =
+        record {
+          slide = sl;
+          head-in = next-in (S .q) d (sl .inside);
+          passed = refl;
+          lengths = record {
+            store = length-copied (S .w) (S .n + S .q) store (place S σ r) (S .n + d) long p-in target-in ∙ long;
+            forward = length-set (σ .forward) r d ∙ sound .lengths .forward;
+            reverse = reverse-long;
+            rows = T .after .rows-long;
+            counts = T .after .counts-long;
+          };
+          links = relinked-to S σ sound r row-in d (sl .inside) free vacant;
+          bytes = record {
+            target = copied-to (S .w) (S .n + S .q) store (place S σ r) (S .n + d) long p-in target-in;
+            home = λ x c x-in at c-in. absurd (marks-none S (sound .ranges) x (omega arith) (sym (holder S σ sound r row-in d (sl .inside) free x x-in at) ∙ vacant));
+            rest = λ p c n away c-in. copied-other (S .w) (S .n + S .q) store (place S σ r) (S .n + d) long p-in target-in p c n c-in;
+          };
+        }
+
+    -- to a slot whose row v is sent home
+    module _ (v : ℕ) (held : reverseOf σ d ≡ v) (v-in : v < S .n) (back : forwardOf σ v ≡ d) where
+      home-in : v < S .n + S .q
+      home-in = omega arith
+
+      sent-long : length (copied (S .w) store (S .n + d) v) ≡ (S .n + S .q) * S .w
+      sent-long = length-copied (S .w) (S .n + S .q) store (S .n + d) v long target-in home-in ∙ long
+
+      -- the first copy, and the second
+      beside : (p c : ℕ) → p ≢ v → c < S .w → byteAt (S .w) (copied (S .w) store (S .n + d) v) p c ≡ byteAt (S .w) store p c
+      beside = copied-other (S .w) (S .n + S .q) store (S .n + d) v long target-in home-in
+
+      kept : (p c : ℕ) → p ≢ S .n + d → c < S .w
+          → byteAt (S .w) (copied (S .w) (copied (S .w) store (S .n + d) v) (place S σ r) (S .n + d)) p c ≡ byteAt (S .w) (copied (S .w) store (S .n + d) v) p c
+      kept = copied-other (S .w) (S .n + S .q) (copied (S .w) store (S .n + d) v) (place S σ r) (S .n + d) sent-long p-in target-in
+
+      moved-over : Moved S σ r store d (settled S σ r store (OverSlot (slot d) (visible v)))
+      moved-over =
+          record {
+            slide = sl;
+            head-in = next-in (S .q) d (sl .inside);
+            passed = refl;
+            lengths = record {
+              store = length-copied (S .w) (S .n + S .q) (copied (S .w) store (S .n + d) v) (place S σ r) (S .n + d) sent-long p-in target-in ∙ sent-long;
+              forward = length-set (set (σ .forward) v empty) r d ∙ length-set (σ .forward) v empty ∙ sound .lengths .forward;
+              reverse = reverse-long;
+              rows = T .after .rows-long;
+              counts = T .after .counts-long;
+            };
+            links = relinked-over S σ sound r row-in d (sl .inside) free v held v-in back;
+            bytes = record {
+              target = λ c c-in.
+                  copied-to (S .w) (S .n + S .q) (copied (S .w) store (S .n + d) v) (place S σ r) (S .n + d) sent-long p-in target-in c c-in
+                  ∙ beside (place S σ r) c (not-home d (λ e. free (sym e)) v v-in back) c-in;
+              home = λ x c x-in at c-in.
+                  let xv : x ≡ v = sym (holder S σ sound r row-in d (sl .inside) free x x-in at) ∙ held in
+                  rw xv (kept v c (omega arith) c-in ∙ copied-to (S .w) (S .n + S .q) store (S .n + d) v long target-in home-in c c-in);
+              rest = λ p c n away c-in. kept p c n c-in ∙ beside p c (away v v-in back) c-in;
+            };
+          }
+
+  -- what an accepted access that moves its row leaves; m: the move as answered
+  pub data Fate (store : List ℕ) : Move → Type 0 where
+    stays : moves S σ r ≡ false → Fate store Stayed
+    goes : moves S σ r ≡ true → (d : ℕ) → reverseOf σ d ≡ empty → Moved S σ r store d (settled S σ r store (ToSlot (slot d))) → Fate store (ToSlot (slot d))
+    ousts : moves S σ r ≡ true → (d v : ℕ) → reverseOf σ d ≡ v → v < S .n → forwardOf σ v ≡ d
+        → Moved S σ r store d (settled S σ r store (OverSlot (slot d) (visible v))) → Fate store (OverSlot (slot d) (visible v))
+
+  module _ (T : Tracks (S .a) (S .k) (place S σ r) (σ .rows) (σ .counts) (σ .control .spill) (σ .control .acts) (tracked S σ r))
+      (head-in : σ .control .head < S .q) (room : moves S σ r ≡ true → σ .control .passed + rise σ r ≤ S .q)
+      (store : List ℕ) (long : length store ≡ (S .n + S .q) * S .w) where
+    by-plan : (m : Move) → Plan S σ r m → Fate store m
+    by-plan m (rests e) = stays e
+    by-plan m (fills e vacant) =
+        goes e (destination S σ r) vacant (moved-to T store long (destination S σ r) (slide S σ r (sound .ranges .q-low) head-in (room e)) vacant)
+    by-plan m (evicts e full) =
+        elim (sound .inverse .reverse (destination S σ r) (destination-in S σ r head-in)) [
+          | inl z ↦ absurd (full z)
+          | inr c ↦
+              ousts e (destination S σ r) (reverseOf σ (destination S σ r)) refl (c .0) (c .1)
+              (moved-over T store long (destination S σ r) (slide S σ r (sound .ranges .q-low) head-in (room e)) (reverseOf σ (destination S σ r)) refl (c .0) (c .1))
+        ]
+
+    pub fate : Fate store (move S σ r)
+    fate = by-plan (move S σ r) (plan S σ r)
