@@ -3,3 +3,4 @@ pub mod Facts
 pub mod Window
 pub mod Pointers
 pub mod Moves
+pub mod Answers

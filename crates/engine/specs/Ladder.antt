@@ -11,7 +11,6 @@ use Rattle.engine.specs.State.{State, lengthsOf, forwardOf, reverseOf}
 use Rattle.engine.specs.Steps.{moves, destination, rise}
 
 infixr 20 _▹_
-
 -- a rung of the ladder: its number where its condition applies, that is, where the test fails
 unfoldable pub rung : Bool → ℕ → ℕ
 rung test number = cond test 0 number

@@ -37,6 +37,7 @@ use Rattle.history.proofs.Openings.{here, home-bound, home-new, slot-bo
 use Rattle.engine.proofs.Pointers.{Sound, marks-none, place-in}
 use Rattle.history.proofs.Invariant.{Inv, estimate, gone}
 use Rattle.engine.proofs.Moves.{destination-in}
+use Rattle.engine.proofs.Answers.{number-is, place-is}
 use Rattle.history.proofs.Access.{inv-access, never-wanting}
 
 -- ---- a new epoch: tables as they stand, a tracker as set up, nothing gone by
@@ -63,11 +64,7 @@ inv-new S σ τ ranges limit sound head-in places =
       slots = λ s b. rw (estimate-new (S .k) (S .n + s), gone-none (S .q) (σ .control .head) s b) (slot-new (eqb (reverseOf σ s) empty) (τ .openings (S .n + s)) pos);
     }
 
--- ---- the number of an access, and what its answer holds
-
-pub number-is : (S : Settings) (σ : State) (r x : ℕ) (store filled buffer : List ℕ) → numberOf ((calls.answered S σ r x store filled buffer) .answer) ≡ x
-unfolding calls.answered
-number-is S σ r x store filled buffer = elim (split (eqb x 0)) [ inl e ↦ rw e (sym (eqb-true x 0 e)) | inr e ↦ rw e ]
+-- ---- the number of a call
 
 -- the number that the ladder gives for a call
 abbrev pub ladder : Settings → State → Call → ℕ
@@ -185,17 +182,16 @@ module _ (S : Settings) (σ : State) (τ₀ τ : tally.Tally) (I : Inv S σ τ�
   not-9 enough c e = ladder-not-9 enough c (sym (step-number S σ c) ∙ e)
 
   -- an accepted access answers the tally's place
-  place-is : (r x : ℕ) (span : Bool) (store filled buffer : List ℕ) → x ≡ accessNumber S σ r span → numberOf ((calls.answered S σ r x store filled buffer) .answer) ≡ 0
+  tallied-place : (r x : ℕ) (span : Bool) (store filled buffer : List ℕ) → x ≡ accessNumber S σ r span → numberOf ((calls.answered S σ r x store filled buffer) .answer) ≡ 0
       → placeOf ((calls.answered S σ r x store filled buffer) .answer) ≡ τ .place r
-  unfolding calls.answered
-  place-is r x span store filled buffer same z =
-      let accept : accessNumber S σ r span ≡ 0 = sym same ∙ sym (number-is S σ r x store filled buffer) ∙ z in
-      rw (eq-eqb x 0 (same ∙ accept)) (sym (I .places r (accepted S σ r span accept .reached .row-in)))
+  tallied-place r x span store filled buffer same z =
+      let zero : x ≡ 0 = sym (number-is S σ r x store filled buffer) ∙ z in
+      place-is S σ r x store filled buffer zero ∙ sym (I .places r (accepted S σ r span (sym same ∙ zero) .reached .row-in))
 
   pub answers-place : (c : Call) → AccessAnswersPlace τ (record { call = c; answer = (step S σ c) .answer }) c
   unfolding step calls.read calls.write
-  answers-place (read r buffer) = λ z. place-is r _ (readSpan S (length buffer)) _ _ _ refl z
-  answers-place (write r column bytes) = λ z. place-is r _ (writeSpan S column (length bytes)) _ _ _ refl z
+  answers-place (read r buffer) = λ z. tallied-place r _ (readSpan S (length buffer)) _ _ _ refl z
+  answers-place (write r column bytes) = λ z. tallied-place r _ (writeSpan S column (length bytes)) _ _ _ refl z
   answers-place tick = tt
   answers-place (inspect r) = tt
 

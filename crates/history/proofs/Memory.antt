@@ -17,13 +17,14 @@ use Rattle.engine.specs.Steps.{place, move, accessed}
 use Rattle.engine.specs.Ladder.{tickNumber, inspectNumber, accessNumber, readSpan, writeSpan}
 use Rattle.engine.specs.Calls as calls
 use Rattle.engine.proofs.Facts.{Accepted, accepted, inspected}
+use Rattle.engine.proofs.Answers.{number-is}
 use Rattle.history.specs.Run.{Call, read, write, tick, inspect, step, events}
 use Rattle.history.specs.Tally as tally
 use Rattle.history.specs.Demand2.{Memory, standing, overwritten, remember, ReturnsRow, RowsReturned, BytesKept}
 use Rattle.history.proofs.Invariant.{Inv}
 use Rattle.history.proofs.Access.{its-fate}
 use Rattle.history.proofs.Bytes.{Stands, stands-new, row-returned, stands-written, stands-settled}
-use Rattle.history.proofs.Calls.{number-is, carried, store-long, written-long}
+use Rattle.history.proofs.Calls.{carried, store-long, written-long}
 use Rattle.history.proofs.History.{set-up-state, inv-set-up}
 
 module _ (S : Settings) (σ : State) (τ₀ τ : tally.Tally) (I : Inv S σ τ₀ τ) (mem : Memory) (st : Stands S σ (σ .store) mem) where
