@@ -52,10 +52,6 @@ pub rise-most : (σ : State) (r : ℕ) → rise σ r ≤ 2
 unfolding rise
 rise-most σ r = elim (split (sitsAtHead σ r)) [ inl e ↦ rw e (omega arith) | inr e ↦ rw e (omega arith) ]
 
-pub destination-in : (S : Settings) (σ : State) (r : ℕ) → σ .control .head < S .q → destination S σ r < S .q
-unfolding destination
-destination-in S σ r b = elim (split (sitsAtHead σ r)) [ inl e ↦ rw e (next-in (S .q) (σ .control .head) b) | inr e ↦ rw e b ]
-
 next-apart : (q h : ℕ) → h < q → 2 ≤ q → h ≢ (h + 1) % q
 next-apart q h b two e = elim (next-is q h b) [ inl c ↦ omega (arith, c .1) | inr c ↦ omega (arith, c .0, c .1) ]
 
@@ -79,6 +75,10 @@ slide S σ r two b room =
           rw e (slide-one (own σ r) (S .q) h m b (omega arith) e)
     ]
 
+pub destination-in : (S : Settings) (σ : State) (r : ℕ) → σ .control .head < S .q → destination S σ r < S .q
+unfolding destination
+destination-in S σ r b = elim (split (sitsAtHead σ r)) [ inl e ↦ rw e (next-in (S .q) (σ .control .head) b) | inr e ↦ rw e b ]
+
 -- ---- the bytes
 
 -- row r goes to slot d: the bytes that the copies leave (store: before them, after: after them)
@@ -96,9 +96,9 @@ pub record Moved (S : Settings) (σ : State) (r : ℕ) (store : List ℕ) (d : �
   pub slide : Slide (own σ r) (S .q) (σ .control .head) (σ .control .passed) d (σ′ .control .head) (σ′ .control .passed)
   pub head-in : σ′ .control .head < S .q
   pub passed : σ′ .control .passed ≡ σ .control .passed + rise σ r
-  pub lengths : Exact S (lengthsOf σ′)
   pub links : Relinked S σ r d (σ′ .forward) (σ′ .reverse)
   pub bytes : Carried S σ r d store (σ′ .store)
+  pub lengths : Exact S (lengthsOf σ′)
 
 module _ (S : Settings) (σ : State) (sound : Sound S σ) (r : ℕ) (row-in : r < S .n) where
   -- the tracker, wherever the row is left
@@ -138,18 +138,18 @@ module _ (S : Settings) (σ : State) (sound : Sound S σ) (r : ℕ) (row-in : r 
           slide = sl;
           head-in = next-in (S .q) d (sl .inside);
           passed = refl;
+          links = relinked-to S σ sound r row-in d (sl .inside) free vacant;
+          bytes = record {
+            target = copied-to (S .w) (S .n + S .q) store (place S σ r) (S .n + d) long p-in target-in;
+            home = λ x c x-in at c-in. absurd (marks-none S (sound .ranges) x (omega arith) (sym (holder S σ sound r row-in d (sl .inside) free x x-in at) ∙ vacant));
+            rest = λ p c n away c-in. copied-other (S .w) (S .n + S .q) store (place S σ r) (S .n + d) long p-in target-in p c n c-in;
+          };
           lengths = record {
             store = length-copied (S .w) (S .n + S .q) store (place S σ r) (S .n + d) long p-in target-in ∙ long;
             forward = length-set (σ .forward) r d ∙ sound .lengths .forward;
             reverse = reverse-long;
             rows = T .after .rows-long;
             counts = T .after .counts-long;
-          };
-          links = relinked-to S σ sound r row-in d (sl .inside) free vacant;
-          bytes = record {
-            target = copied-to (S .w) (S .n + S .q) store (place S σ r) (S .n + d) long p-in target-in;
-            home = λ x c x-in at c-in. absurd (marks-none S (sound .ranges) x (omega arith) (sym (holder S σ sound r row-in d (sl .inside) free x x-in at) ∙ vacant));
-            rest = λ p c n away c-in. copied-other (S .w) (S .n + S .q) store (place S σ r) (S .n + d) long p-in target-in p c n c-in;
           };
         }
 
@@ -175,13 +175,6 @@ module _ (S : Settings) (σ : State) (sound : Sound S σ) (r : ℕ) (row-in : r 
             slide = sl;
             head-in = next-in (S .q) d (sl .inside);
             passed = refl;
-            lengths = record {
-              store = length-copied (S .w) (S .n + S .q) (copied (S .w) store (S .n + d) v) (place S σ r) (S .n + d) sent-long p-in target-in ∙ sent-long;
-              forward = length-set (set (σ .forward) v empty) r d ∙ length-set (σ .forward) v empty ∙ sound .lengths .forward;
-              reverse = reverse-long;
-              rows = T .after .rows-long;
-              counts = T .after .counts-long;
-            };
             links = relinked-over S σ sound r row-in d (sl .inside) free v held v-in back;
             bytes = record {
               target = λ c c-in.
@@ -191,6 +184,13 @@ module _ (S : Settings) (σ : State) (sound : Sound S σ) (r : ℕ) (row-in : r 
                   let xv : x ≡ v = sym (holder S σ sound r row-in d (sl .inside) free x x-in at) ∙ held in
                   rw xv (kept v c (omega arith) c-in ∙ copied-to (S .w) (S .n + S .q) store (S .n + d) v long target-in home-in c c-in);
               rest = λ p c n away c-in. kept p c n c-in ∙ beside p c (away v v-in back) c-in;
+            };
+            lengths = record {
+              store = length-copied (S .w) (S .n + S .q) (copied (S .w) store (S .n + d) v) (place S σ r) (S .n + d) sent-long p-in target-in ∙ sent-long;
+              forward = length-set (set (σ .forward) v empty) r d ∙ length-set (σ .forward) v empty ∙ sound .lengths .forward;
+              reverse = reverse-long;
+              rows = T .after .rows-long;
+              counts = T .after .counts-long;
             };
           }
 

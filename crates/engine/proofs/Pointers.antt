@@ -67,10 +67,7 @@ module _ (S : Settings) (σ : State) (sound : Sound S σ) (r : ℕ) (row-in : r 
   module _ (d : ℕ) (slot-in : d < S .q) (free : d ≢ forwardOf σ r) where
     pub left-long : length (left (σ .reverse) (forwardOf σ r)) ≡ S .q
     left-long =
-        elim (split (eqb (forwardOf σ r) empty)) [
-          | inl k ↦ rw k (sound .lengths .reverse)
-          | inr k ↦ rw k (length-set (σ .reverse) (forwardOf σ r) empty ∙ sound .lengths .reverse)
-        ]
+        elim (split (eqb (forwardOf σ r) empty)) [ inl k ↦ rw k (sound .lengths .reverse) | inr k ↦ rw k (simp length-set (sound .lengths .reverse)) ]
 
     reverse-filled : getD (set (left (σ .reverse) (forwardOf σ r)) d r) d empty ≡ r
     reverse-filled = getD-set-same (left (σ .reverse) (forwardOf σ r)) d r empty (omega (arith, left-long))
