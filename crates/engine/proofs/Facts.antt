@@ -4,6 +4,7 @@ use native.Mathlib.Omega.{arith}
 use mathlib.Core.Path.{_≡_, refl}
 use mathlib.Core.Logic.{_⊎_, inl, inr, _≢_}
 use mathlib.Core.Bool.{Bool, true, false, not, _&&_, _||_}
+use mathlib.Core.List.{List}
 use lib.Dec.{ltb, leb, eqb}
 use lib.ListN.{length, getD}
 use borrow.Author.Tests.{ltb-true, leb-true, leb-false, eqb-true, eqb-false, not-true, not-false, lt-ltb, le-ltb, le-leb, eq-eqb, ne-eqb}
@@ -16,7 +17,7 @@ use Rattle.tracker.specs.Scan.{some}
 use Rattle.tracker.proofs.Scans.{some-none}
 use Rattle.engine.specs.State.{State, lengthsOf, forwardOf, reverseOf}
 use Rattle.engine.specs.Steps.{moves, destination, rise}
-use Rattle.engine.specs.Ladder.{rung, _▹_, controlHolds, pointersHold, destinationHolds, setUpNumber, tickNumber, inspectNumber, accessNumber}
+use Rattle.engine.specs.Ladder.{rung, _▹_, fitNumber, controlHolds, pointsBack, pointersHold, destinationHolds, setUpNumber, tickNumber, inspectNumber, accessNumber}
 use Rattle.engine.proofs.Rungs.{pass, held, passes, holds, reach, only, past, rung-all, ladder-all, either, neither, unless, unless-holds}
 
 -- ---- the rungs 1 to 4
@@ -28,18 +29,18 @@ pub record Fit (S : Settings) (σ : State) : Type 0 where
   pub lengths : lengthsHold S (lengthsOf σ) ≡ true
 
 pub fit : (S : Settings) (σ : State) → setUpNumber S σ ≡ 0 → Fit S σ
-unfolding setUpNumber
+unfolding fitNumber
 fit S σ h =
     let p1 = pass _ _ h in
     let p2 = pass _ _ (p1 .1) in
     record { ranges = held _ _ (p1 .0); limit = held _ _ (p2 .0); lengths = held _ _ (p2 .1) }
 
 pub fit-passes : (S : Settings) (σ : State) → Fit S σ → setUpNumber S σ ≡ 0
-unfolding setUpNumber
+unfolding fitNumber
 fit-passes S σ f = passes (holds 1 (f .ranges)) (passes (holds 2 (f .limit)) (holds 3 (f .lengths)))
 
 pub tick-most : (S : Settings) (σ : State) → tickNumber S σ ≤ 4
-unfolding tickNumber setUpNumber
+unfolding tickNumber fitNumber
 tick-most S σ =
     let P : ℕ → Type 0 = λ x. x ≤ 4 in
     ladder-all P _ _
@@ -53,11 +54,11 @@ inspect-most S σ r =
     ladder-all P _ _ (omega (arith, tick-most S σ)) (λ e. ladder-all P _ _ (rung-all P _ 5 (omega arith) (omega arith)) (λ f. rung-all P _ 7 (omega arith) (omega arith)))
 
 -- past 1 to 4
-pub tick-facts : (S : Settings) (σ : State) → tickNumber S σ ≡ 0 → Fit S σ × (controlHolds S σ ≡ true)
+pub tick-facts : (S : Settings) (σ : State) → tickNumber S σ ≡ 0 → Fit S σ × (controlHolds S (σ .control) (σ .counts) ≡ true)
 unfolding tickNumber
 tick-facts S σ h = let p = pass _ _ h in (fit S σ (p .0), held _ _ (p .1))
 
-pub tick-passes : (S : Settings) (σ : State) → Fit S σ → controlHolds S σ ≡ true → tickNumber S σ ≡ 0
+pub tick-passes : (S : Settings) (σ : State) → Fit S σ → controlHolds S (σ .control) (σ .counts) ≡ true → tickNumber S σ ≡ 0
 unfolding tickNumber
 tick-passes S σ f c = passes (fit-passes S σ f) (holds 4 c)
 
@@ -69,7 +70,7 @@ pub record Steady (S : Settings) (σ : State) : Type 0 where
   pub spill-in : σ .control .spill ≤ σ .control .acts
   pub spill-below : σ .control .spill < S .a
 
-pub steady : (S : Settings) (σ : State) → controlHolds S σ ≡ true → Steady S σ
+pub steady : (S : Settings) (σ : State) → controlHolds S (σ .control) (σ .counts) ≡ true → Steady S σ
 unfolding controlHolds
 steady S σ h =
     record {
@@ -80,7 +81,7 @@ steady S σ h =
       spill-below = ltb-true (σ .control .spill) (S .a) (search (and-left, and-right) depth 8);
     }
 
-pub steady-holds : (S : Settings) (σ : State) → Steady S σ → ((i : ℕ) → i < length (σ .counts) → getD (σ .counts) i 0 ≤ σ .control .acts) → controlHolds S σ ≡ true
+pub steady-holds : (S : Settings) (σ : State) → Steady S σ → ((i : ℕ) → i < length (σ .counts) → getD (σ .counts) i 0 ≤ σ .control .acts) → controlHolds S (σ .control) (σ .counts) ≡ true
 unfolding controlHolds
 steady-holds S σ s counts =
     rw (
@@ -102,39 +103,37 @@ module _ (S : Settings) (σ : State) where
   abbrev pub SlotSound : ℕ → Type 0
   SlotSound d = (reverseOf σ d ≡ empty) ⊎ ((reverseOf σ d < S .n) × (forwardOf σ (reverseOf σ d) ≡ d))
 
--- either test: entry e is empty, or below m and the entry b that it leads to is x
-sound : (e m b x : ℕ) → (eqb e empty || (ltb e m && eqb b x)) ≡ true → (e ≡ empty) ⊎ ((e < m) × (b ≡ x))
-sound e m b x h =
+pub points-back : (e m : ℕ) (other : List ℕ) (x : ℕ) → pointsBack e m other x ≡ true → (e ≡ empty) ⊎ ((e < m) × (getD other e empty ≡ x))
+unfolding pointsBack
+points-back e m other x h =
+    let b : ℕ = getD other e empty in
     elim (either (eqb e empty) (ltb e m && eqb b x) h) [
       | inl k ↦ inl (eqb-true e empty k)
       | inr k ↦ inr (ltb-true e m (and-left (ltb e m) (eqb b x) k), eqb-true b x (and-right (ltb e m) (eqb b x) k))
     ]
 
-sound-holds : (e m b x : ℕ) → (e ≡ empty) ⊎ ((e < m) × (b ≡ x)) → (eqb e empty || (ltb e m && eqb b x)) ≡ true
-sound-holds e m b x h =
+pub points-back-holds : (e m : ℕ) (other : List ℕ) (x : ℕ) → (e ≡ empty) ⊎ ((e < m) × (getD other e empty ≡ x)) → pointsBack e m other x ≡ true
+unfolding pointsBack
+points-back-holds e m other x h =
     elim (split (eqb e empty)) [
       | inl k ↦ rw k
       | inr k ↦ elim h [
         | inl z ↦ absurd (eqb-false e empty k z)
-        | inr c ↦ rw (k, lt-ltb e m (c .0), eq-eqb b x (c .1))
+        | inr c ↦ rw (k, lt-ltb e m (c .0), eq-eqb (getD other e empty) x (c .1))
       ]
     ]
 
 pub row-sound : (S : Settings) (σ : State) (r : ℕ) → pointersHold S σ r ≡ true → RowSound S σ r
-unfolding pointersHold
-row-sound S σ r h = sound (forwardOf σ r) (S .q) (reverseOf σ (forwardOf σ r)) r h
+row-sound S σ r h = points-back (forwardOf σ r) (S .q) (σ .reverse) r h
 
 pub row-holds : (S : Settings) (σ : State) (r : ℕ) → RowSound S σ r → pointersHold S σ r ≡ true
-unfolding pointersHold
-row-holds S σ r h = sound-holds (forwardOf σ r) (S .q) (reverseOf σ (forwardOf σ r)) r h
+row-holds S σ r h = points-back-holds (forwardOf σ r) (S .q) (σ .reverse) r h
 
 pub slot-sound : (S : Settings) (σ : State) (d : ℕ) → destinationHolds S σ d ≡ true → SlotSound S σ d
-unfolding destinationHolds
-slot-sound S σ d h = sound (reverseOf σ d) (S .n) (forwardOf σ (reverseOf σ d)) d h
+slot-sound S σ d h = points-back (reverseOf σ d) (S .n) (σ .forward) d h
 
 pub slot-holds : (S : Settings) (σ : State) (d : ℕ) → SlotSound S σ d → destinationHolds S σ d ≡ true
-unfolding destinationHolds
-slot-holds S σ d h = sound-holds (reverseOf σ d) (S .n) (forwardOf σ (reverseOf σ d)) d h
+slot-holds S σ d h = points-back-holds (reverseOf σ d) (S .n) (σ .forward) d h
 
 -- ---- an inspect of row r
 
@@ -147,7 +146,7 @@ inspected S σ r h = let p = pass _ _ (pass _ _ h .1) in ltb-true r (S .n) (held
 -- past the rungs 1 to 8
 pub record Reached (S : Settings) (σ : State) (r : ℕ) (span : Bool) : Type 0 where
   pub fit : Fit S σ
-  pub control : controlHolds S σ ≡ true
+  pub control : controlHolds S (σ .control) (σ .counts) ≡ true
   pub row-in : r < S .n
   pub spans : span ≡ true
   pub pointers : pointersHold S σ r ≡ true

@@ -19,7 +19,7 @@ use Rattle.rows.proofs.Laws.{byteAt, length-copied, copied-to, copied-other}
 use Rattle.engine.specs.declared.Move.{Move}
 use Rattle.engine.specs.declared.Move.the-variants.{Stayed, ToSlot, OverSlot}
 use Rattle.engine.specs.State.{State, lengthsOf, forwardOf, reverseOf}
-use Rattle.engine.specs.Steps.{place, tracked, moves, sitsAtHead, destination, rise, move, left, settled}
+use Rattle.engine.specs.Steps.{place, tracked, moves, destinationFrom, destination, riseFrom, rise, move, left, settled}
 use Rattle.engine.proofs.Window.{Slide, slide-one, slide-more, next-is, next-in}
 use Rattle.engine.proofs.Pointers.{Sound, Relinked, marks-none, place-is, place-in, left-long, holder, relinked-to, relinked-over}
 
@@ -48,20 +48,23 @@ plan S σ r =
 abbrev pub own : State → ℕ → ℕ → Bool
 own σ r s = eqb (forwardOf σ r) s
 
+pub rise-from-most : (head entry : ℕ) → riseFrom head entry ≤ 2
+unfolding riseFrom
+rise-from-most head entry = elim (split (eqb entry head)) [ inl e ↦ rw e (omega arith) | inr e ↦ rw e (omega arith) ]
+
 pub rise-most : (σ : State) (r : ℕ) → rise σ r ≤ 2
-unfolding rise
-rise-most σ r = elim (split (sitsAtHead σ r)) [ inl e ↦ rw e (omega arith) | inr e ↦ rw e (omega arith) ]
+rise-most σ r = rise-from-most (σ .control .head) (forwardOf σ r)
 
 next-apart : (q h : ℕ) → h < q → 2 ≤ q → h ≢ (h + 1) % q
 next-apart q h b two e = elim (next-is q h b) [ inl c ↦ omega (arith, c .1) | inr c ↦ omega (arith, c .0, c .1) ]
 
 slide : (S : Settings) (σ : State) (r : ℕ) → 2 ≤ S .q → σ .control .head < S .q → σ .control .passed + rise σ r ≤ S .q
     → Slide (own σ r) (S .q) (σ .control .head) (σ .control .passed) (destination S σ r) ((destination S σ r + 1) % S .q) (σ .control .passed + rise σ r)
-unfolding destination rise
+unfolding destinationFrom riseFrom
 slide S σ r two b room =
     let h : ℕ = σ .control .head in
     let m : ℕ = σ .control .passed in
-    elim (split (sitsAtHead σ r)) [
+    elim (split (eqb (forwardOf σ r) (σ .control .head))) [
       | inl e ↦
           let at : forwardOf σ r ≡ h = eqb-true (forwardOf σ r) h e in
           let free : own σ r ((h + 1) % S .q) ≡ false = rw at (ne-eqb h ((h + 1) % S .q) (next-apart (S .q) h b two)) in
@@ -75,9 +78,21 @@ slide S σ r two b room =
           rw e (slide-one (own σ r) (S .q) h m b (omega arith) e)
     ]
 
+pub destination-from-in : (S : Settings) (head entry : ℕ) → head < S .q → destinationFrom S head entry < S .q
+unfolding destinationFrom
+destination-from-in S head entry b = elim (split (eqb entry head)) [ inl e ↦ rw e (next-in (S .q) head b) | inr e ↦ rw e b ]
+
 pub destination-in : (S : Settings) (σ : State) (r : ℕ) → σ .control .head < S .q → destination S σ r < S .q
-unfolding destination
-destination-in S σ r b = elim (split (sitsAtHead σ r)) [ inl e ↦ rw e (next-in (S .q) (σ .control .head) b) | inr e ↦ rw e b ]
+destination-in S σ r b = destination-from-in S (σ .control .head) (forwardOf σ r) b
+
+-- the destination is not the row's own slot
+pub destination-free : (S : Settings) (head entry : ℕ) → 2 ≤ S .q → head < S .q → destinationFrom S head entry ≢ entry
+unfolding destinationFrom
+destination-free S head entry two b =
+    elim (split (eqb entry head)) [
+      | inl e ↦ rw e (λ z. next-apart (S .q) head b two (sym (z ∙ eqb-true entry head e)))
+      | inr e ↦ rw e (λ z. eqb-false entry head e (sym z))
+    ]
 
 -- ---- the bytes
 

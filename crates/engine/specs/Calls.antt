@@ -23,6 +23,9 @@ pub record Noted : Type 0 where
   pub state : State
   pub number : ℕ
 
+abbrev pub notedOf : State → ℕ → Noted
+notedOf σ number = record { state = σ; number = number }
+
 -- the effect where the number is 0; 'Control record and all lent memory remain as before the call' where it is not
 unfoldable pub noted : State → ℕ → State → Noted
 noted σ number effect = record { state = cond (eqb number 0) effect σ; number = number }
@@ -64,6 +67,9 @@ pub record Accessed : Type 0 where
   pub state : State
   pub answer : Access
   pub buffer : List ℕ
+
+abbrev pub accessedOf : State → Access → List ℕ → Accessed
+accessedOf σ answer buffer = record { state = σ; answer = answer; buffer = buffer }
 
 -- an access of row r; 'Control record and all lent memory remain as before the call, the read buffer too' where it is refused.
 -- store: the store after step 3; filled: the buffer where it is accepted

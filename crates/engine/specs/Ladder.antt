@@ -2,8 +2,12 @@
 -- Assumes nothing.
 use Prim.Native.Nat.{ℕ, _+_}
 use mathlib.Core.Bool.{Bool, cond, not, _&&_, _||_}
+use mathlib.Core.List.{List}
 use lib.Dec.{ltb, leb, eqb}
+use lib.ListN.{getD}
 use Rattle.geometry.specs.declared.Settings.{Settings}
+use Rattle.geometry.specs.declared.Control.{Control}
+use Rattle.geometry.specs.declared.Lengths.{Lengths}
 use Rattle.geometry.specs.Conditions.{rangesHold, limitHolds, lengthsHold}
 use Rattle.geometry.specs.Entry.{empty}
 use Rattle.tracker.specs.Scan.{some}
@@ -19,41 +23,45 @@ rung test number = cond test 0 number
 unfoldable pub _▹_ : ℕ → ℕ → ℕ
 upper ▹ lower = cond (eqb upper 0) lower upper
 
+-- 1, 2 and 3
+unfoldable pub fitNumber : Settings → Lengths → ℕ
+fitNumber S lent = rung (rangesHold S) 1 ▹ rung (limitHolds S) 2 ▹ rung (lengthsHold S lent) 3
+
 -- 4: 'head ≥ Q, passed > Q, acts > L, spill > acts, spill ≥ A, or some count > acts'
-unfoldable pub controlHolds : Settings → State → Bool
-controlHolds S σ =
-    ltb (σ .control .head) (S .q)
-    && leb (σ .control .passed) (S .q)
-    && leb (σ .control .acts) (S .l)
-    && leb (σ .control .spill) (σ .control .acts)
-    && ltb (σ .control .spill) (S .a)
-    && not (some (λ count. ltb (σ .control .acts) count) (σ .counts))
+unfoldable pub controlHolds : Settings → Control → List ℕ → Bool
+controlHolds S control counts =
+    ltb (control .head) (S .q)
+    && leb (control .passed) (S .q)
+    && leb (control .acts) (S .l)
+    && leb (control .spill) (control .acts)
+    && ltb (control .spill) (S .a)
+    && not (some (λ count. ltb (control .acts) count) counts)
+
+-- an entry is empty, or below `limit` and x is what the other table has for it
+unfoldable pub pointsBack : ℕ → ℕ → List ℕ → ℕ → Bool
+pointsBack entry limit other x = eqb entry empty || (ltb entry limit && eqb (getD other entry empty) x)
 
 -- 7, row's pointers: 'forward entry is neither 65535 nor a slot whose reverse entry names the row'
-unfoldable pub pointersHold : Settings → State → ℕ → Bool
-pointersHold S σ r =
-    eqb (forwardOf σ r) empty
-    || (ltb (forwardOf σ r) (S .q) && eqb (reverseOf σ (forwardOf σ r)) r)
+abbrev pub pointersHold : Settings → State → ℕ → Bool
+pointersHold S σ r = pointsBack (forwardOf σ r) (S .q) (σ .reverse) r
 
 -- 7, destination: 'reverse of d is neither 65535 nor a row whose forward entry names d'
-unfoldable pub destinationHolds : Settings → State → ℕ → Bool
-destinationHolds S σ d =
-    eqb (reverseOf σ d) empty
-    || (ltb (reverseOf σ d) (S .n) && eqb (forwardOf σ (reverseOf σ d)) d)
+abbrev pub destinationHolds : Settings → State → ℕ → Bool
+destinationHolds S σ d = pointsBack (reverseOf σ d) (S .n) (σ .forward) d
 
--- 'all'
-unfoldable pub setUpNumber : Settings → State → ℕ
-setUpNumber S σ = rung (rangesHold S) 1 ▹ rung (limitHolds S) 2 ▹ rung (lengthsHold S (lengthsOf σ)) 3
+-- the column 'calls' of the table. Set-up:
+abbrev pub setUpNumber : Settings → State → ℕ
+setUpNumber S σ = fitNumber S (lengthsOf σ)
 
--- 'not set-up'
+-- tick:
 unfoldable pub tickNumber : Settings → State → ℕ
-tickNumber S σ = setUpNumber S σ ▹ rung (controlHolds S σ) 4
+tickNumber S σ = setUpNumber S σ ▹ rung (controlHolds S (σ .control) (σ .counts)) 4
 
--- 'read, write, inspect', of row r
+-- inspect, of row r:
 unfoldable pub inspectNumber : Settings → State → ℕ → ℕ
 inspectNumber S σ r = tickNumber S σ ▹ rung (ltb r (S .n)) 5 ▹ rung (pointersHold S σ r) 7
 
--- 'read, write' of row r; span: the test of 6, by which the two differ
+-- read and write, of row r; span: the test of 6, by which the two differ
 unfoldable pub accessNumber : Settings → State → ℕ → Bool → ℕ
 accessNumber S σ r span =
     tickNumber S σ

@@ -16,6 +16,11 @@ pub record State : Type 0 where
   pub counts : List ℕ
   pub control : Control
 
+-- what the slices and the control record of a call hold, as one state
+abbrev pub stateOf : List ℕ → List ℕ → List ℕ → List ℕ → List ℕ → Control → State
+stateOf store forward reverse rows counts control =
+    record { store = store; forward = forward; reverse = reverse; rows = rows; counts = counts; control = control }
+
 abbrev pub lengthsOf : State → Lengths
 lengthsOf σ =
     record {

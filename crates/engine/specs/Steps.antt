@@ -29,25 +29,27 @@ tracked S σ r = track (place S σ r) (σ .rows) (σ .counts) (σ .control .spil
 abbrev pub moves : Settings → State → ℕ → Bool
 moves S σ r = isDue (S .a) ((tracked S σ r) .estimate)
 
--- 'the row itself sits in slot `head`'
-abbrev pub sitsAtHead : State → ℕ → Bool
-sitsAtHead σ r = eqb (forwardOf σ r) (σ .control .head)
-
 -- 'the destination d is `head`; but if the row itself sits in slot `head`, .. d is the next one, (head + 1) mod Q'
-unfoldable pub destination : Settings → State → ℕ → ℕ
-destination S σ r = cond (sitsAtHead σ r) ((σ .control .head + 1) % S .q) (σ .control .head)
+-- (entry: the row's forward entry)
+unfoldable pub destinationFrom : Settings → ℕ → ℕ → ℕ
+destinationFrom S head entry = cond (eqb entry head) ((head + 1) % S .q) head
+
+abbrev pub destination : Settings → State → ℕ → ℕ
+destination S σ r = destinationFrom S (σ .control .head) (forwardOf σ r)
 
 -- '`passed` rises by 1, or by 2 where a slot was passed'
-unfoldable pub rise : State → ℕ → ℕ
-rise σ r = cond (sitsAtHead σ r) 2 1
+unfoldable pub riseFrom : ℕ → ℕ → ℕ
+riseFrom head entry = cond (eqb entry head) 2 1
 
--- where the row goes, and which row is sent home: 'If the reverse entry of d names a row v'
+abbrev pub rise : State → ℕ → ℕ
+rise σ r = riseFrom (σ .control .head) (forwardOf σ r)
+
+-- 'If the reverse entry of d names a row v': where the row goes, and which row is sent home (held: the reverse entry of d)
+abbrev pub moveInto : ℕ → ℕ → Move
+moveInto d held = cond (eqb held empty) (ToSlot (slot d)) (OverSlot (slot d) (visible held))
+
 unfoldable pub move : Settings → State → ℕ → Move
-move S σ r =
-    let d : ℕ = destination S σ r in
-    cond (moves S σ r)
-    (cond (eqb (reverseOf σ d) empty) (ToSlot (slot d)) (OverSlot (slot d) (visible (reverseOf σ d))))
-    Stayed
+move S σ r = cond (moves S σ r) (moveInto (destination S σ r) (reverseOf σ (destination S σ r))) Stayed
 
 -- 'slot d is copied to v's home .. Then p is copied to slot d.'
 abbrev pub storeAfter : Settings → List ℕ → ℕ → Move → List ℕ

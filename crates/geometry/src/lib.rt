@@ -1,8 +1,9 @@
 // The geometry of one rank: settings, control record, the three numberings, pointer entries, and the
 // conditions behind refusals 1, 2 and 3. Every function answers for any argument.
 ghost use mathlib.Core.Path.{_≡_};
+ghost use lib.ListN.{length, replicate};
 ghost use Rattle.geometry.specs.Numbering.{homeOf, slotRowOf};
-ghost use Rattle.geometry.specs.Entry.{entryOfSlot, entryOfRow, slotOf, rowOf, isEmpty};
+ghost use Rattle.geometry.specs.Entry.{empty, entryOfSlot, entryOfRow, slotOf, rowOf, isEmpty};
 ghost use Rattle.geometry.specs.Conditions.{rangesHold, limitHolds, storeHolds, lengthsHold};
 
 // The settings, by the letters of document 01.
@@ -148,4 +149,15 @@ pub fn lengths_hold(s: Settings, lent: Lengths) -> bool
         & (lent.reverse == (s.q as usize))
         & (lent.rows == (s.k as usize))
         & (lent.counts == (s.k as usize))
+}
+
+// Every entry of a table becomes empty.
+pub fn clear_entries(table: &mut [u16])
+    ensures { λ _. ⌜ now (table .exit) ≡ replicate (length (now (table .entry))) empty ⌝ }
+{
+    let mut i: usize = 0;
+    while i < table.len() {
+        table[i] = Entry::EMPTY.0;
+        i += 1;
+    }
 }

@@ -16,8 +16,8 @@ use Rattle.rows.specs.Bytes.{copied}
 use Rattle.engine.specs.declared.Move.{Move}
 use Rattle.engine.specs.declared.Move.the-variants.{Stayed, ToSlot, OverSlot}
 use Rattle.engine.specs.State.{State}
-use Rattle.engine.specs.Steps.{destination, rise, move}
-use Rattle.engine.specs.Ladder.{rung, _▹_, controlHolds, pointersHold, destinationHolds, setUpNumber, tickNumber, accessNumber}
+use Rattle.engine.specs.Steps.{destinationFrom, riseFrom, move}
+use Rattle.engine.specs.Ladder.{rung, _▹_, fitNumber, controlHolds, pointsBack, tickNumber, accessNumber}
 use Rattle.engine.specs.Calls as calls
 use Rattle.history.specs.Run.{Call, read, tick, Event, step, events}
 
@@ -50,8 +50,8 @@ callOf S x = cond (eqb x 65535) tick (read x (replicate (S .w) 7))
 -- the steps of a trace, after set-up, with their answers; `unfolding traced` is what it takes to compute them
 unfoldable pub traced : Settings → List ℕ → List Event
 unfolding calls.setUp calls.noted calls.tick calls.read calls.answered step
-    lowest some track copied destination rise move rung _▹_ setUpNumber tickNumber accessNumber
-    rangesHold limitHolds storeHolds lengthsHold controlHolds pointersHold destinationHolds
+    lowest some track copied destinationFrom riseFrom move rung _▹_ fitNumber tickNumber accessNumber
+    rangesHold limitHolds storeHolds lengthsHold controlHolds pointsBack
 traced S steps = events S ((calls.setUp S (lent S)) .state) (map (callOf S) steps)
 
 -- 'step from 1, refusal number or 0, place, slot moved to, row sent home'
