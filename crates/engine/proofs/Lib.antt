@@ -7,3 +7,4 @@ pub mod Answers
 pub mod Stages
 pub mod Settles
 pub mod Decides
+pub mod Serves

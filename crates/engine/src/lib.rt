@@ -6,6 +6,7 @@ use geometry::Slot;
 use geometry::VisibleRow;
 use tracker::Choice;
 
+pub mod calls;
 pub mod ladder;
 pub mod settle;
 
