@@ -6,17 +6,17 @@ ghost use lib.ListN.{length, replicate};
 ghost use Rattle.geometry.specs.Entry.{empty};
 ghost use Rattle.engine.specs.State.{stateOf};
 ghost use Rattle.engine.specs.Calls.{notedOf, accessedOf, setUp, tick, read, write, inspectPart};
-use geometry::Control;
-use geometry::Entry;
-use geometry::Lengths;
-use geometry::Settings;
-use geometry::VisibleRow;
 use super::Access;
 use super::Numbered;
 use super::Served;
 use super::Verdict;
 use super::ladder;
 use super::settle;
+use geometry::Control;
+use geometry::Entry;
+use geometry::Lengths;
+use geometry::Settings;
+use geometry::VisibleRow;
 
 const NEW: Control = Control {
     head: 0,

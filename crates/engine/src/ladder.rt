@@ -1,6 +1,5 @@
 // The refusals, in the order of document 01. Nothing lent is written here.
 ghost use mathlib.Core.Path.{_≡_};
-
 ghost use Prim.Native.Nat.{_+_, _<_, _≤_};
 ghost use lib.ListN.{length};
 ghost use Rattle.geometry.specs.Numbering.{physical};
@@ -9,6 +8,8 @@ ghost use Rattle.engine.specs.State.{stateOf};
 ghost use Rattle.engine.specs.Steps.{destinationFrom, riseFrom, placeBy};
 ghost use Rattle.engine.specs.Ladder.{fitNumber, controlHolds, pointsBack, tickNumber, inspectNumber, readSpan, writeSpan};
 ghost use Rattle.engine.specs.Stages.{rowNumber, quarantineOf, verdictOf};
+use super::Move;
+use super::Verdict;
 use geometry::Control;
 use geometry::Entry;
 use geometry::Lengths;
@@ -17,8 +18,6 @@ use geometry::Settings;
 use geometry::Slot;
 use geometry::VisibleRow;
 use tracker::Choice;
-use super::Move;
-use super::Verdict;
 
 // 1, 2 and 3.
 pub fn fit_number(s: Settings, lent: Lengths) -> u32

@@ -9,6 +9,8 @@ ghost use Rattle.rows.specs.Bytes.{copied};
 ghost use Rattle.engine.specs.State.{stateOf};
 ghost use Rattle.engine.specs.Steps.{left, settled};
 ghost use Rattle.engine.specs.Stages.{tablesOf, relocated, Sendable, Movable, Relocatable, Decided};
+use super::Move;
+use super::ladder;
 use geometry::Control;
 use geometry::Entry;
 use geometry::PhysicalRow;
@@ -16,8 +18,6 @@ use geometry::Settings;
 use geometry::Slot;
 use geometry::VisibleRow;
 use tracker::Choice;
-use super::Move;
-use super::ladder;
 
 // The reverse entry of the slot that a row leaves is emptied.
 fn leave(reverse: &mut [u16], entry: Entry)
@@ -122,5 +122,14 @@ pub fn settle(
         spill: spill,
         acts: control.acts + 1,
     };
-    relocate(counted, s, VisibleRow(row as u16), place, moved, store, forward, reverse)
+    relocate(
+        counted,
+        s,
+        VisibleRow(row as u16),
+        place,
+        moved,
+        store,
+        forward,
+        reverse,
+    )
 }

@@ -7,6 +7,7 @@ ghost use Rattle.geometry.specs.Entry.{empty, entryOfSlot, entryOfRow, s
 ghost use Rattle.geometry.specs.Conditions.{rangesHold, limitHolds, storeHolds, lengthsHold};
 
 // The settings, by the letters of document 01.
+#[repr(C)]
 pub struct Settings {
     // visible rows
     pub n: u32,
@@ -23,6 +24,7 @@ pub struct Settings {
 }
 
 // The control record.
+#[repr(C)]
 pub struct Control {
     // next slot
     pub head: u32,
