@@ -4,7 +4,3 @@ pub mod Window
 pub mod Pointers
 pub mod Moves
 pub mod Answers
-pub mod Stages
-pub mod Settles
-pub mod Decides
-pub mod Serves

@@ -4,4 +4,3 @@ pub mod Steps
 pub mod Ladder
 pub mod Calls
 pub mod Tables
-pub mod Stages

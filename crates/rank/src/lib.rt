@@ -87,7 +87,7 @@ pub fn read_core(
 ) -> Reported
     ensures { λ r. ⌜ shownOf (stateOf (now (store .exit)) (now (forward .exit)) (now (reverse .exit)) (now (rows .exit)) (now (counts .exit)) (r .control)) (r .outcome) (now (buffer .exit)) ≡ shown (read s (stateOf (now (store .entry)) (now (forward .entry)) (now (reverse .entry)) (now (rows .entry)) (now (counts .entry)) control) row (now (buffer .entry))) ⌝ }
 {
-    let t = engine::calls::read(
+    let t = calls::read(
         control,
         s,
         row,
@@ -121,7 +121,7 @@ pub fn write_core(
 ) -> Reported
     ensures { λ r. ⌜ shownOf (stateOf (now (store .exit)) (now (forward .exit)) (now (reverse .exit)) (now (rows .exit)) (now (counts .exit)) (r .control)) (r .outcome) [] ≡ shown (write s (stateOf (now (store .entry)) (now (forward .entry)) (now (reverse .entry)) (now (rows .entry)) (now (counts .entry)) control) row column (now (bytes .entry))) ⌝ }
 {
-    let t = engine::calls::write(
+    let t = calls::write(
         control,
         s,
         row,
@@ -154,7 +154,7 @@ pub extern "C" fn aqua_set_up(
 ) -> u32
     ensures { λ r. ⌜ notedOf (stateOf (now (store .entry)) (now (forward .exit)) (now (reverse .exit)) (now (rows .exit)) (now (counts .exit)) (now (control .exit))) r ≡ setUp s (stateOf (now (store .entry)) (now (forward .entry)) (now (reverse .entry)) (now (rows .entry)) (now (counts .entry)) (now (control .entry))) ⌝ }
 {
-    let t = engine::calls::set_up(*control, s, store, forward, reverse, rows, counts);
+    let t = calls::set_up(*control, s, store, forward, reverse, rows, counts);
     *control = t.control;
     t.number
 }
@@ -234,7 +234,7 @@ pub extern "C" fn aqua_tick(
 ) -> u32
     ensures { λ r. ⌜ notedOf (stateOf (now (store .entry)) (now (forward .entry)) (now (reverse .entry)) (now (rows .exit)) (now (counts .exit)) (now (control .exit))) r ≡ tick s (stateOf (now (store .entry)) (now (forward .entry)) (now (reverse .entry)) (now (rows .entry)) (now (counts .entry)) (now (control .entry))) ⌝ }
 {
-    let t = engine::calls::tick(*control, s, store, forward, reverse, rows, counts);
+    let t = calls::tick(*control, s, store, forward, reverse, rows, counts);
     *control = t.control;
     t.number
 }
@@ -253,7 +253,7 @@ pub extern "C" fn aqua_inspect_number(
 ) -> u32
     ensures { λ r. ⌜ r ≡ inspectNumber s (stateOf (now (store .entry)) (now (forward .entry)) (now (reverse .entry)) (now (rows .entry)) (now (counts .entry)) (now (control .entry))) row ⌝ }
 {
-    engine::ladder::inspect_number(*control, s, row, store, forward, reverse, rows, counts)
+    ladder::inspect_number(*control, s, row, store, forward, reverse, rows, counts)
 }
 
 // Inspect, by its second call: the part of the store that holds the row, of length 0 where the number is not 0.
@@ -269,7 +269,7 @@ pub fn inspect_part<'a>(
 ) -> &'a [u8]
     ensures { λ r. ⌜ now r ≡ inspectPart s (stateOf (now (store .entry)) (now (forward .entry)) (now (reverse .entry)) (now (rows .entry)) (now (counts .entry)) (now (control .entry))) row ⌝ }
 {
-    engine::calls::inspect_part(*control, s, row, store, forward, reverse, rows, counts)
+    calls::inspect_part(*control, s, row, store, forward, reverse, rows, counts)
 }
 
 // Where inspect's part lies in the store, for callers that cannot take a slice.
@@ -293,16 +293,7 @@ pub extern "C" fn aqua_inspect_span(
 ) -> Span
     ensures { λ r. ⌜ take (r .length) (drop (r .start) (now (store .entry))) ≡ inspectPart s (stateOf (now (store .entry)) (now (forward .entry)) (now (reverse .entry)) (now (rows .entry)) (now (counts .entry)) control) row ⌝ }
 {
-    let number = engine::ladder::inspect_number(
-        control,
-        s,
-        row,
-        store,
-        forward,
-        reverse,
-        rows,
-        counts,
-    );
+    let number = ladder::inspect_number(control, s, row, store, forward, reverse, rows, counts);
     if number != 0 {
         return Span {
             start: 0,
@@ -310,7 +301,7 @@ pub extern "C" fn aqua_inspect_span(
         };
     }
     let at = row as usize;
-    let place = engine::ladder::place_of(s, VisibleRow(row as u16), Entry(forward[at]));
+    let place = ladder::place_of(s, VisibleRow(row as u16), Entry(forward[at]));
     let w = s.w as usize;
     Span {
         start: (place.0 as usize) * w,

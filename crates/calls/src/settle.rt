@@ -1,0 +1,134 @@
+// What an accepted access writes: the tracker, the copies, the pointer tables.
+ghost use mathlib.Core.Path.{_≡_};
+ghost use mathlib.Core.Logic.{_⊎_};
+ghost use Prim.Native.Nat.{_<_};
+ghost use lib.ListN.{length, getD, set};
+ghost use Rattle.geometry.specs.Numbering.{homeRow, slotRow};
+ghost use Rattle.geometry.specs.Entry.{empty};
+ghost use Rattle.rows.specs.Bytes.{copied};
+ghost use Rattle.engine.specs.State.{stateOf};
+ghost use Rattle.engine.specs.Steps.{left, settled};
+ghost use Rattle.calls.specs.Settling.{tablesOf, relocated, Sendable, Movable, Relocatable, Decided};
+use engine::Move;
+use geometry::Control;
+use geometry::Entry;
+use geometry::PhysicalRow;
+use geometry::Settings;
+use geometry::Slot;
+use geometry::VisibleRow;
+use tracker::Choice;
+
+// The reverse entry of the slot that a row leaves is emptied.
+fn leave(reverse: &mut [u16], entry: Entry)
+    requires { ⌜ (entry .0 ≡ empty) ⊎ (entry .0 < length (now reverse)) ⌝ }
+    ensures { λ _. ⌜ now (reverse .exit) ≡ left (now (reverse .entry)) (entry .0) ⌝ }
+{
+    if entry.is_empty() {
+        return;
+    }
+    let at = entry.0 as usize;
+    reverse[at] = Entry::EMPTY.0;
+}
+
+// The row that a slot holds is copied home and its forward entry emptied.
+fn send_home(s: Settings, d: Slot, v: VisibleRow, store: &mut [u8], forward: &mut [u16])
+    requires { ⌜ Sendable s (d .0) (v .0) (now store) (now forward) ⌝ }
+    ensures store { λ _. ⌜ now (store .exit) ≡ copied (s .w) (now (store .entry)) (slotRow s (d .0)) (homeRow (v .0)) ⌝ }
+    ensures forward { λ _. ⌜ now (forward .exit) ≡ set (now (forward .entry)) (v .0) empty ⌝ }
+{
+    let source = geometry::slot_row(s, d);
+    let target = geometry::home(v);
+    rows::copy_row(store, s.w as usize, source.0 as usize, target.0 as usize);
+    let at = v.0 as usize;
+    forward[at] = Entry::EMPTY.0;
+}
+
+// A row is copied from its place to a slot, and the tables and the head with it.
+fn enter(
+    control: Control,
+    s: Settings,
+    row: VisibleRow,
+    place: PhysicalRow,
+    d: Slot,
+    store: &mut [u8],
+    forward: &mut [u16],
+    reverse: &mut [u16],
+) -> Control
+    requires { ⌜ Movable s (row .0) (place .0) (d .0) (tablesOf (now store) (now forward) (now reverse) control) ⌝ }
+    ensures { λ r. ⌜ tablesOf (now (store .exit)) (now (forward .exit)) (now (reverse .exit)) r ≡ relocated s (row .0) (place .0) (Move.ToSlot d) (tablesOf (now (store .entry)) (now (forward .entry)) (now (reverse .entry)) control) ⌝ }
+{
+    let target = geometry::slot_row(s, d);
+    rows::copy_row(store, s.w as usize, place.0 as usize, target.0 as usize);
+    let at = row.0 as usize;
+    let entry = Entry(forward[at]);
+    leave(reverse, entry);
+    let to = d.0 as usize;
+    reverse[to] = Entry::of_row(row).0;
+    forward[at] = Entry::of_slot(d).0;
+    Control {
+        head: ((d.0 as u32) + 1) % s.q,
+        passed: control.passed + ladder::rise(control.head, entry),
+        spill: control.spill,
+        acts: control.acts,
+    }
+}
+
+// Step 4, once it is decided where the row goes.
+fn relocate(
+    control: Control,
+    s: Settings,
+    row: VisibleRow,
+    place: PhysicalRow,
+    moved: Move,
+    store: &mut [u8],
+    forward: &mut [u16],
+    reverse: &mut [u16],
+) -> Control
+    requires { ⌜ Relocatable s (row .0) (place .0) moved (tablesOf (now store) (now forward) (now reverse) control) ⌝ }
+    ensures { λ r. ⌜ tablesOf (now (store .exit)) (now (forward .exit)) (now (reverse .exit)) r ≡ relocated s (row .0) (place .0) moved (tablesOf (now (store .entry)) (now (forward .entry)) (now (reverse .entry)) control) ⌝ }
+{
+    match moved {
+        Move::Stayed => control,
+        Move::ToSlot(d) => enter(control, s, row, place, d, store, forward, reverse),
+        Move::OverSlot(d, v) => {
+            send_home(s, d, v, store, forward);
+            enter(control, s, row, place, d, store, forward, reverse)
+        }
+    }
+}
+
+// Steps 2 and 4 of an accepted access, and `acts` of step 3.
+pub fn settle(
+    control: Control,
+    s: Settings,
+    row: u32,
+    place: PhysicalRow,
+    choice: Choice,
+    moved: Move,
+    store: &mut [u8],
+    forward: &mut [u16],
+    reverse: &mut [u16],
+    rows: &mut [u16],
+    counts: &mut [u32],
+) -> Control
+    requires { ⌜ Decided s (stateOf (now store) (now forward) (now reverse) (now rows) (now counts) control) row place choice moved ⌝ }
+    ensures { λ r. ⌜ stateOf (now (store .exit)) (now (forward .exit)) (now (reverse .exit)) (now (rows .exit)) (now (counts .exit)) r ≡ settled s (stateOf (now (store .entry)) (now (forward .entry)) (now (reverse .entry)) (now (rows .entry)) (now (counts .entry)) control) row (now (store .entry)) moved ⌝ }
+{
+    let spill = tracker::follow(choice, place.0 as u16, rows, counts, control.spill);
+    let counted = Control {
+        head: control.head,
+        passed: control.passed,
+        spill: spill,
+        acts: control.acts + 1,
+    };
+    relocate(
+        counted,
+        s,
+        VisibleRow(row as u16),
+        place,
+        moved,
+        store,
+        forward,
+        reverse,
+    )
+}

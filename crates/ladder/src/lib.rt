@@ -1,0 +1,292 @@
+// The refusals, in the order of document 01. Nothing lent is written here.
+ghost use mathlib.Core.Path.{_≡_};
+ghost use Prim.Native.Nat.{_+_, _<_, _≤_};
+ghost use lib.ListN.{length};
+ghost use Rattle.geometry.specs.Numbering.{physical};
+ghost use Rattle.tracker.specs.Track.{isDue};
+ghost use Rattle.engine.specs.State.{stateOf};
+ghost use Rattle.engine.specs.Steps.{destinationFrom, riseFrom, placeBy};
+ghost use Rattle.engine.specs.Ladder.{fitNumber, controlHolds, pointsBack, tickNumber, inspectNumber, readSpan, writeSpan};
+ghost use Rattle.ladder.specs.Stages.{rowNumber, quarantineOf, verdictOf};
+use engine::Move;
+use geometry::Control;
+use geometry::Entry;
+use geometry::Lengths;
+use geometry::PhysicalRow;
+use geometry::Settings;
+use geometry::Slot;
+use geometry::VisibleRow;
+use tracker::Choice;
+
+// What is decided of an access before anything is written.
+pub enum Verdict {
+    // it is refused with this number
+    Stop(u32),
+    // it is accepted: the row's place, the tracker's way, and where the row goes
+    Go {
+        place: PhysicalRow,
+        choice: Choice,
+        moved: Move,
+    },
+}
+
+// 1, 2 and 3.
+pub fn fit_number(s: Settings, lent: Lengths) -> u32
+    ensures { λ r. ⌜ r ≡ fitNumber s lent ⌝ }
+{
+    if !geometry::ranges_hold(s) {
+        return 1;
+    }
+    if !geometry::limit_holds(s) {
+        return 2;
+    }
+    if !geometry::lengths_hold(s, lent) {
+        return 3;
+    }
+    0
+}
+
+// 4: the control record and the tracker counts.
+pub fn control_holds(control: Control, s: Settings, counts: &[u32]) -> bool
+    ensures { λ r. ⌜ r ≡ controlHolds s control (now (counts .entry)) ⌝ }
+{
+    (control.head < s.q)
+        & (control.passed <= s.q)
+        & (control.acts <= s.l)
+        & (control.spill <= control.acts)
+        & (control.spill < s.a)
+        & !tracker::any_above(counts, control.acts)
+}
+
+// 1 to 4, which every call but set-up has to pass.
+pub fn tick_number(
+    control: Control,
+    s: Settings,
+    store: &[u8],
+    forward: &[u16],
+    reverse: &[u16],
+    rows: &[u16],
+    counts: &[u32],
+) -> u32
+    ensures { λ r. ⌜ r ≡ tickNumber s (stateOf (now (store .entry)) (now (forward .entry)) (now (reverse .entry)) (now (rows .entry)) (now (counts .entry)) control) ⌝ }
+{
+    let lent = Lengths {
+        store: store.len(),
+        forward: forward.len(),
+        reverse: reverse.len(),
+        rows: rows.len(),
+        counts: counts.len(),
+    };
+    let number = fit_number(s, lent);
+    if number != 0 {
+        return number;
+    }
+    if !control_holds(control, s, counts) {
+        return 4;
+    }
+    0
+}
+
+// The test of both rungs 7: the entry is empty, or below the limit and the other table has x for it.
+fn points_back(entry: Entry, limit: u32, other: &[u16], x: u32) -> bool
+    requires { ⌜ limit ≤ length (now other) ⌝ }
+    ensures { λ r. ⌜ r ≡ pointsBack (entry .0) limit (now (other .entry)) x ⌝ }
+{
+    if entry.is_empty() {
+        return true;
+    }
+    if limit <= (entry.0 as u32) {
+        return false;
+    }
+    let at = entry.0 as usize;
+    (other[at] as u32) == x
+}
+
+// The rungs 5 to 8.
+fn row_number(
+    control: Control,
+    s: Settings,
+    row: u32,
+    span: bool,
+    forward: &[u16],
+    reverse: &[u16],
+) -> u32
+    requires { ⌜ (length (now forward) ≡ s .n) × (length (now reverse) ≡ s .q) ⌝ }
+    ensures { λ r. ⌜ r ≡ rowNumber s control row span (now (forward .entry)) (now (reverse .entry)) ⌝ }
+{
+    if s.n <= row {
+        return 5;
+    }
+    if !span {
+        return 6;
+    }
+    let at = row as usize;
+    let entry = Entry(forward[at]);
+    if !points_back(entry, s.q, reverse, row) {
+        return 7;
+    }
+    if control.acts == s.l {
+        return 8;
+    }
+    0
+}
+
+// 6, for a read.
+pub fn read_span(s: Settings, count: usize) -> bool
+    ensures { λ r. ⌜ r ≡ readSpan s count ⌝ }
+{
+    count == (s.w as usize)
+}
+
+// 6, for a write: the sum of column and count is not formed.
+pub fn write_span(s: Settings, column: usize, count: usize) -> bool
+    ensures { λ r. ⌜ r ≡ writeSpan s column count ⌝ }
+{
+    let w = s.w as usize;
+    if w < column {
+        return false;
+    }
+    count <= w - column
+}
+
+// Step 1: the place of a row with that forward entry.
+pub fn place_of(s: Settings, row: VisibleRow, entry: Entry) -> PhysicalRow
+    ensures { λ r. ⌜ r ≡ physical (placeBy s (entry .0) (row .0)) ⌝ }
+{
+    if entry.is_empty() {
+        return geometry::home(row);
+    }
+    geometry::slot_row(s, entry.slot())
+}
+
+// The destination of a row with that forward entry.
+pub fn destination(s: Settings, head: u32, entry: Entry) -> u32
+    requires { ⌜ (head < s .q) × (s .q ≤ 5500) ⌝ }
+    ensures { λ r. ⌜ r ≡ destinationFrom s head (entry .0) ⌝ }
+{
+    if (entry.0 as u32) == head {
+        return (head + 1) % s.q;
+    }
+    head
+}
+
+// By how much its move raises `passed`.
+pub fn rise(head: u32, entry: Entry) -> u32
+    ensures { λ r. ⌜ r ≡ riseFrom head (entry .0) ⌝ }
+{
+    if (entry.0 as u32) == head {
+        return 2;
+    }
+    1
+}
+
+// 9 and the destination's 7, and the move where neither applies.
+fn quarantine(
+    control: Control,
+    s: Settings,
+    entry: Entry,
+    place: PhysicalRow,
+    choice: Choice,
+    forward: &[u16],
+    reverse: &[u16],
+) -> Verdict
+    requires { ⌜ (length (now forward) ≡ s .n) × (length (now reverse) ≡ s .q) × (control .head < s .q) × (control .passed ≤ s .q) × (s .q ≤ 5500) ⌝ }
+    ensures { λ r. ⌜ r ≡ quarantineOf s control (entry .0) place choice (now (forward .entry)) (now (reverse .entry)) (destinationFrom s (control .head) (entry .0)) ⌝ }
+{
+    if s.q < control.passed + rise(control.head, entry) {
+        return Verdict::Stop(9);
+    }
+    let d = destination(s, control.head, entry);
+    let at = d as usize;
+    let held = Entry(reverse[at]);
+    if !points_back(held, s.n, forward, d) {
+        return Verdict::Stop(7);
+    }
+    let target = Slot(d as u16);
+    if held.is_empty() {
+        return Verdict::Go {
+            place: place,
+            choice: choice,
+            moved: Move::ToSlot(target),
+        };
+    }
+    Verdict::Go {
+        place: place,
+        choice: choice,
+        moved: Move::OverSlot(target, held.row()),
+    }
+}
+
+// The estimate calls for a move: there is one, and it is a multiple of A.
+fn is_due(s: Settings, estimate: u32) -> bool
+    requires { ⌜ 1 ≤ s .a ⌝ }
+    ensures { λ r. ⌜ r ≡ isDue (s .a) estimate ⌝ }
+{
+    if estimate == 0 {
+        return false;
+    }
+    estimate % s.a == 0
+}
+
+// All that is decided of an access before anything is written.
+pub fn judge(
+    control: Control,
+    s: Settings,
+    row: u32,
+    span: bool,
+    store: &[u8],
+    forward: &[u16],
+    reverse: &[u16],
+    rows: &[u16],
+    counts: &[u32],
+) -> Verdict
+    ensures { λ r. ⌜ r ≡ verdictOf s (stateOf (now (store .entry)) (now (forward .entry)) (now (reverse .entry)) (now (rows .entry)) (now (counts .entry)) control) row span ⌝ }
+{
+    let early = tick_number(control, s, store, forward, reverse, rows, counts);
+    if early != 0 {
+        return Verdict::Stop(early);
+    }
+    let number = row_number(control, s, row, span, forward, reverse);
+    if number != 0 {
+        return Verdict::Stop(number);
+    }
+    let at = row as usize;
+    let entry = Entry(forward[at]);
+    let place = place_of(s, VisibleRow(row as u16), entry);
+    let choice = tracker::choose(place.0 as u16, rows, counts, control.spill);
+    if !is_due(s, tracker::estimate(choice)) {
+        return Verdict::Go {
+            place: place,
+            choice: choice,
+            moved: Move::Stayed,
+        };
+    }
+    quarantine(control, s, entry, place, choice, forward, reverse)
+}
+
+// The number of an inspect.
+pub fn inspect_number(
+    control: Control,
+    s: Settings,
+    row: u32,
+    store: &[u8],
+    forward: &[u16],
+    reverse: &[u16],
+    rows: &[u16],
+    counts: &[u32],
+) -> u32
+    ensures { λ r. ⌜ r ≡ inspectNumber s (stateOf (now (store .entry)) (now (forward .entry)) (now (reverse .entry)) (now (rows .entry)) (now (counts .entry)) control) row ⌝ }
+{
+    let early = tick_number(control, s, store, forward, reverse, rows, counts);
+    if early != 0 {
+        return early;
+    }
+    if s.n <= row {
+        return 5;
+    }
+    let at = row as usize;
+    if !points_back(Entry(forward[at]), s.q, reverse, row) {
+        return 7;
+    }
+    0
+}
