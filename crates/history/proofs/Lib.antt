@@ -10,3 +10,4 @@ pub mod Calls
 pub mod History
 pub mod AfterTick
 pub mod Memory
+pub mod Served

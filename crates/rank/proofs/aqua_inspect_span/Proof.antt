@@ -3,7 +3,7 @@ use mathlib.Core.Path.{refl}
 use native.Mathlib.Omega.{arith}
 use Rattle.rows.specs.Bytes.{rowBytes}
 use Rattle.engine.specs.State.{stateOf}
-use Rattle.engine.proofs.Serves.{part-none, row-small, row-inside, part-inside, part-row}
+use Rattle.calls.proofs.Serves.{part-none, row-small, row-inside, part-inside, part-row}
 use borrow.Author.Needs.{needs}
 use Rattle.rank.proofs.aqua_inspect_span.Statement.{statement}
 use Rattle.rank.proofs.aqua_inspect_span.Tie as tie

@@ -1,0 +1,115 @@
+/* AQUA row quarantine engine, one rank: the calls for firmware in C.
+ *
+ * Link target/staticlib/librank.a, which `rt staticlib rank` proves and writes. Every call takes any argument and answers
+ * by a number, 0 where it is accepted. A call that is refused leaves the control record, everything lent and the read
+ * buffer as they were.
+ *
+ * The caller lends, at each call the same memory as the last call left it:
+ *   store    (n + q) * w bytes
+ *   forward  n 16-bit numbers       reverse  q 16-bit numbers
+ *   rows     k 16-bit numbers       counts   k 32-bit numbers
+ * A length counts elements, not bytes. Pointers must not be null and must not overlap, also where a length is 0.
+ *
+ * Refusal numbers, the first that applies:
+ *   1  a setting is outside its range        2  l is a * (k + 1) or more
+ *   3  something lent has another length     4  the control record or the tracker counts are unsound
+ *   5  the row is n or more                  6  the read buffer is not w long, or the write runs past w
+ *   7  the pointers of the row, or of the slot that it would move to, are unsound
+ *   8  l accesses were accepted in this epoch
+ *   9  the row would have to move and no slot is left in this epoch
+ */
+#ifndef AQUA_H
+#define AQUA_H
+
+#include <stddef.h>
+#include <stdint.h>
+
+#ifdef __cplusplus
+extern "C" {
+#endif
+
+#define AQUA_NONE 65535u
+
+/* Fixed from one set-up to the next. */
+typedef struct {
+    uint32_t n; /* visible rows, 1 to 60,000 */
+    uint32_t q; /* quarantine slots, 2 to 5,500 */
+    uint32_t w; /* bytes in a row, 1 to 8,192 */
+    uint32_t k; /* tracker entries, 1 to 4,096 */
+    uint32_t a; /* threshold, 1 to 65,535 */
+    uint32_t l; /* accesses allowed per epoch, 1 to 1,360,000; less than a * (k + 1) */
+} aqua_settings;
+
+/* The control record. Only the calls write it. */
+typedef struct {
+    uint32_t head;   /* next slot */
+    uint32_t passed; /* slots the head has gone by this epoch */
+    uint32_t spill;
+    uint32_t acts; /* accepted accesses this epoch */
+} aqua_control;
+
+/* The answer of a read or a write. In a refusal place is 0, and slot and row are AQUA_NONE. */
+typedef struct {
+    uint32_t number; /* 0, or the refusal's number */
+    uint32_t slot;   /* the slot that the row was moved to, or AQUA_NONE */
+    uint32_t row;    /* the row that was sent home for it, or AQUA_NONE */
+    uint64_t place;  /* the physical row that was opened */
+} aqua_outcome;
+
+/* Where a part of the store lies. */
+typedef struct {
+    size_t start;
+    size_t length;
+} aqua_span;
+
+/* The answer of a sizing sum: number 1 and value 0 where an argument is outside its range. */
+typedef struct {
+    uint32_t number;
+    uint64_t value;
+} aqua_sum;
+
+/* Begins a new history: tables and tracker empty, control record 0. The store is left as it is. */
+uint32_t aqua_set_up(aqua_control *control, aqua_settings settings, const uint8_t *store, size_t store_length,
+                     uint16_t *forward, size_t forward_length, uint16_t *reverse, size_t reverse_length,
+                     uint16_t *rows, size_t rows_length, uint32_t *counts, size_t counts_length);
+
+/* Reads a row into a buffer of exactly w bytes. */
+aqua_outcome aqua_read(aqua_control *control, aqua_settings settings, uint32_t row, uint8_t *buffer,
+                       size_t buffer_length, uint8_t *store, size_t store_length, uint16_t *forward,
+                       size_t forward_length, uint16_t *reverse, size_t reverse_length, uint16_t *rows,
+                       size_t rows_length, uint32_t *counts, size_t counts_length);
+
+/* Writes bytes into a row from a column on; column plus count may be at most w. No bytes are still an access. */
+aqua_outcome aqua_write(aqua_control *control, aqua_settings settings, uint32_t row, size_t column,
+                        const uint8_t *bytes, size_t bytes_length, uint8_t *store, size_t store_length,
+                        uint16_t *forward, size_t forward_length, uint16_t *reverse, size_t reverse_length,
+                        uint16_t *rows, size_t rows_length, uint32_t *counts, size_t counts_length);
+
+/* Ends the epoch: the tracker starts anew; head, pointers and store remain. */
+uint32_t aqua_tick(aqua_control *control, aqua_settings settings, const uint8_t *store, size_t store_length,
+                   const uint16_t *forward, size_t forward_length, const uint16_t *reverse, size_t reverse_length,
+                   uint16_t *rows, size_t rows_length, uint32_t *counts, size_t counts_length);
+
+/* Inspect opens nothing and counts nothing. Its number: */
+uint32_t aqua_inspect_number(const aqua_control *control, aqua_settings settings, uint32_t row, const uint8_t *store,
+                             size_t store_length, const uint16_t *forward, size_t forward_length,
+                             const uint16_t *reverse, size_t reverse_length, const uint16_t *rows, size_t rows_length,
+                             const uint32_t *counts, size_t counts_length);
+
+/* and where the row lies in the store at present; length 0 exactly where the number is not 0. */
+aqua_span aqua_inspect_span(aqua_control control, aqua_settings settings, uint32_t row, const uint8_t *store,
+                            size_t store_length, const uint16_t *forward, size_t forward_length,
+                            const uint16_t *reverse, size_t reverse_length, const uint16_t *rows, size_t rows_length,
+                            const uint32_t *counts, size_t counts_length);
+
+/* tREFW * B / (A * tRC + B * tmov), rounded up; times in nanoseconds. */
+aqua_sum aqua_least_size(uint64_t trefw, uint64_t trc, uint64_t tmov, uint64_t banks, uint64_t threshold);
+
+/* tREFW * (tREFI - tRFC) / (tREFI * tRC), rounded down; times in nanoseconds. */
+aqua_sum aqua_most_activations(uint64_t trefw, uint64_t trc, uint64_t trefi, uint64_t trfc);
+
+#ifdef __cplusplus
+}
+#endif
+
+#endif
