@@ -2,8 +2,6 @@
 // refuses, nothing lent is written.
 ghost use mathlib.Core.Path.{_≡_};
 ghost use mathlib.Core.List.{[]};
-ghost use lib.ListN.{length, replicate};
-ghost use Rattle.geometry.specs.Entry.{empty};
 ghost use Rattle.engine.specs.State.{stateOf};
 ghost use Rattle.engine.specs.Calls.{notedOf, accessedOf, setUp, tick, read, write, inspectPart};
 use engine::Access;
@@ -28,6 +26,7 @@ pub struct Numbered {
     pub control: Control,
 }
 
+// The control record at set-up.
 const NEW: Control = Control {
     head: 0,
     passed: 0,
@@ -35,7 +34,7 @@ const NEW: Control = Control {
     acts: 0,
 };
 
-// Set-up.
+// Set-up: its number, and everything lent but the store as new.
 pub fn set_up(
     control: Control,
     s: Settings,
@@ -70,7 +69,7 @@ pub fn set_up(
     }
 }
 
-// Tick.
+// Tick: its number, and the tracker as new.
 pub fn tick(
     control: Control,
     s: Settings,
@@ -101,7 +100,7 @@ pub fn tick(
     }
 }
 
-// Read.
+// Read: the row's bytes go into the buffer.
 pub fn read(
     control: Control,
     s: Settings,
@@ -152,7 +151,7 @@ pub fn read(
     }
 }
 
-// Write.
+// Write: bytes go into the row from a column on.
 pub fn write(
     control: Control,
     s: Settings,

@@ -22,10 +22,24 @@ cast-read-row : tie.Need-cast-read-row
 cast-read-row c = search needs
 
 read-row-requires : tie.Need-read-row-requires
-read-row-requires c κs = let a = c .before .before .before .before .before .before .before .before .before .before .before .before .before .before .before .before .before .before .before .args in (buffer-long (a .s) (stateOf (a .store .now) (a .forward .now) (a .reverse .now) (a .rows .now) (a .counts .now) (a .control)) (a .row) (c .before .before .before .before .before .before .before .before .before .before .before .before .read-span .result) (a .buffer .now) (c .before .before .before .before .before .before .before .before .before .before .before .before .read-span .ensures) (c .before .before .before .before .verdict2 .given .0 .0) (c .before .before .before .before .verdict2 .given .0 .1 .0) (c .before .before .before .before .verdict2 .given .0 .1 .1 .0) (sym (c .before .before .before .before .verdict2 .given .1) ∙ c .before .before .before .before .before .before .judge .ensures), place-inside (a .s) (stateOf (a .store .now) (a .forward .now) (a .reverse .now) (a .rows .now) (a .counts .now) (a .control)) (a .row) (c .before .before .before .before .before .before .before .before .before .before .before .before .read-span .result) (c .before .before .before .before .verdict2 .given .0 .0) (c .before .before .before .before .verdict2 .given .0 .1 .0) (c .before .before .before .before .verdict2 .given .0 .1 .1 .0) (sym (c .before .before .before .before .verdict2 .given .1) ∙ c .before .before .before .before .before .before .judge .ensures))
+read-row-requires c κs =
+    let a =
+    c .before .before .before .before .before .before .before .before .before .before .before .before .before .before .before .before .before .before .before .args in
+    let σ = stateOf (a .store .now) (a .forward .now) (a .reverse .now) (a .rows .now) (a .counts .now) (a .control) in
+    (buffer-long (a .s) σ (a .row) (c .before .before .before .before .before .before .before .before .before .before .before .before .read-span .result) (a .buffer .now) (c .before .before .before .before .before .before .before .before .before .before .before .before .read-span .ensures) (c .before .before .before .before .verdict2 .given .0 .0) (c .before .before .before .before .verdict2 .given .0 .1 .0) (c .before .before .before .before .verdict2 .given .0 .1 .1 .0) (sym (c .before .before .before .before .verdict2 .given .1) ∙ c .before .before .before .before .before .before .judge .ensures), place-inside (a .s) σ (a .row) (c .before .before .before .before .before .before .before .before .before .before .before .before .read-span .result) (c .before .before .before .before .verdict2 .given .0 .0) (c .before .before .before .before .verdict2 .given .0 .1 .0) (c .before .before .before .before .verdict2 .given .0 .1 .1 .0) (sym (c .before .before .before .before .verdict2 .given .1) ∙ c .before .before .before .before .before .before .judge .ensures))
 
 settle-requires : tie.Need-settle-requires
-settle-requires c κs = let a = c .before .before .before .before .before .before .before .before .before .before .before .before .before .before .before .before .before .before .before .before .before .before .before .before .before .before .before .args in decided (a .s) (stateOf (a .store .now) (a .forward .now) (a .reverse .now) (a .rows .now) (a .counts .now) (a .control)) (a .row) (c .before .before .before .before .before .before .before .before .before .before .before .before .before .before .before .before .before .before .before .before .read-span .result) (c .before .before .before .before .before .before .before .before .before .before .before .before .verdict2 .given .0 .0) (c .before .before .before .before .before .before .before .before .before .before .before .before .verdict2 .given .0 .1 .0) (c .before .before .before .before .before .before .before .before .before .before .before .before .verdict2 .given .0 .1 .1 .0) (sym (c .before .before .before .before .before .before .before .before .before .before .before .before .verdict2 .given .1) ∙ c .before .before .before .before .before .before .before .before .before .before .before .before .before .before .judge .ensures) (a .store .now) refl
+settle-requires c κs =
+    let a =
+    c .before .before .before .before .before .before .before .before .before .before .before .before .before .before .before .before .before .before .before .before .before .before .before .before .before .before .before .args in
+    let σ = stateOf (a .store .now) (a .forward .now) (a .reverse .now) (a .rows .now) (a .counts .now) (a .control) in
+    decided (a .s) σ (a .row)
+    (c .before .before .before .before .before .before .before .before .before .before .before .before .before .before .before .before .before .before .before .before .read-span .result)
+    (c .before .before .before .before .before .before .before .before .before .before .before .before .verdict2 .given .0 .0)
+    (c .before .before .before .before .before .before .before .before .before .before .before .before .verdict2 .given .0 .1 .0)
+    (c .before .before .before .before .before .before .before .before .before .before .before .before .verdict2 .given .0 .1 .1 .0)
+    (sym (c .before .before .before .before .before .before .before .before .before .before .before .before .verdict2 .given .1) ∙ c .before .before .before .before .before .before .before .before .before .before .before .before .before .before .judge .ensures)
+    (a .store .now) refl
 
 same-length : tie.Need-same-length
 same-length c = search needs
@@ -43,7 +57,12 @@ same-length-5 : tie.Need-same-length-5
 same-length-5 c = search needs
 
 returns : tie.Need-returns
-returns c = let a = c .before .before .before .before .before .before .before .before .before .before .before .before .before .before .before .before .args in read-refused (a .s) (stateOf (a .store .now) (a .forward .now) (a .reverse .now) (a .rows .now) (a .counts .now) (a .control)) (a .row) (c .before .before .before .before .before .before .before .before .before .read-span .result) (a .buffer .now) (c .before .before .before .before .before .before .before .before .before .read-span .ensures) _ (sym (c .before .verdict .given .1) ∙ c .before .before .before .judge .ensures)
+returns c =
+    let a = c .before .before .before .before .before .before .before .before .before .before .before .before .before .before .before .before .args in
+    let σ = stateOf (a .store .now) (a .forward .now) (a .reverse .now) (a .rows .now) (a .counts .now) (a .control) in
+    read-refused (a .s) σ (a .row) (c .before .before .before .before .before .before .before .before .before .read-span .result) (a .buffer .now)
+    (c .before .before .before .before .before .before .before .before .before .read-span .ensures) _
+    (sym (c .before .verdict .given .1) ∙ c .before .before .before .judge .ensures)
 
 same-length-6 : tie.Need-same-length-6
 same-length-6 c = search needs
@@ -64,7 +83,21 @@ same-length-11 : tie.Need-same-length-11
 same-length-11 c = search needs
 
 returns-2 : tie.Need-returns-2
-returns-2 c = let a = c .before .before .before .before .before .before .before .before .before .before .before .before .before .before .before .before .before .before .before .before .before .before .before .before .before .before .before .before .before .before .before .before .before .before .before .before .before .before .args in read-served (a .s) (stateOf (a .store .now) (a .forward .now) (a .reverse .now) (a .rows .now) (a .counts .now) (a .control)) (a .row) (c .before .before .before .before .before .before .before .before .before .before .before .before .before .before .before .before .before .before .before .before .before .before .before .before .before .before .before .before .before .before .before .read-span .result) (a .buffer .now) (c .before .before .before .before .before .before .before .before .before .before .before .before .before .before .before .before .before .before .before .before .before .before .before .before .before .before .before .before .before .before .before .read-span .ensures) (c .before .before .before .before .before .before .before .before .before .before .before .before .before .before .before .before .before .before .before .before .before .before .before .verdict2 .given .0 .0) (c .before .before .before .before .before .before .before .before .before .before .before .before .before .before .before .before .before .before .before .before .before .before .before .verdict2 .given .0 .1 .0) (c .before .before .before .before .before .before .before .before .before .before .before .before .before .before .before .before .before .before .before .before .before .before .before .verdict2 .given .0 .1 .1 .0) (sym (c .before .before .before .before .before .before .before .before .before .before .before .before .before .before .before .before .before .before .before .before .before .before .before .verdict2 .given .1) ∙ c .before .before .before .before .before .before .before .before .before .before .before .before .before .before .before .before .before .before .before .before .before .before .before .before .before .judge .ensures) _ (c .before .before .before .before .before .before .before .before .before .before .before .before .before .before .before .before .before .before .read-row .ensures) _ (c .before .before .before .before .before .before .before .before .before .before .settle .ensures)
+returns-2 c =
+    let a =
+    c .before .before .before .before .before .before .before .before .before .before .before .before .before .before .before .before .before .before .before .before .before .before .before .before .before .before .before .before .before .before .before .before .before .before .before .before .before .before .args in
+    let σ = stateOf (a .store .now) (a .forward .now) (a .reverse .now) (a .rows .now) (a .counts .now) (a .control) in
+    read-served (a .s) σ (a .row)
+    (c .before .before .before .before .before .before .before .before .before .before .before .before .before .before .before .before .before .before .before .before .before .before .before .before .before .before .before .before .before .before .before .read-span .result)
+    (a .buffer .now)
+    (c .before .before .before .before .before .before .before .before .before .before .before .before .before .before .before .before .before .before .before .before .before .before .before .before .before .before .before .before .before .before .before .read-span .ensures)
+    (c .before .before .before .before .before .before .before .before .before .before .before .before .before .before .before .before .before .before .before .before .before .before .before .verdict2 .given .0 .0)
+    (c .before .before .before .before .before .before .before .before .before .before .before .before .before .before .before .before .before .before .before .before .before .before .before .verdict2 .given .0 .1 .0)
+    (c .before .before .before .before .before .before .before .before .before .before .before .before .before .before .before .before .before .before .before .before .before .before .before .verdict2 .given .0 .1 .1 .0)
+    (sym (c .before .before .before .before .before .before .before .before .before .before .before .before .before .before .before .before .before .before .before .before .before .before .before .verdict2 .given .1) ∙ c .before .before .before .before .before .before .before .before .before .before .before .before .before .before .before .before .before .before .before .before .before .before .before .before .before .judge .ensures)
+    _
+    (c .before .before .before .before .before .before .before .before .before .before .before .before .before .before .before .before .before .before .read-row .ensures)
+    _ (c .before .before .before .before .before .before .before .before .before .before .settle .ensures)
 
 pub read-spec : {M : Type 1} → statement M
 read-spec =

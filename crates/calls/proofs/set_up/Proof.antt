@@ -9,7 +9,10 @@ fit-number-requires : tie.Need-fit-number-requires
 fit-number-requires c κs = search needs
 
 returns : tie.Need-returns
-returns c = let a = c .before .before .before .before .before .before .before .args in set-up-refused (a .s) (stateOf (a .store .now) (a .forward .now) (a .reverse .now) (a .rows .now) (a .counts .now) (a .control)) _ (c .before .fit-number .ensures) (c .if1 .taken)
+returns c =
+    let a = c .before .before .before .before .before .before .before .args in
+    let σ = stateOf (a .store .now) (a .forward .now) (a .reverse .now) (a .rows .now) (a .counts .now) (a .control) in
+    set-up-refused (a .s) σ _ (c .before .fit-number .ensures) (c .if1 .taken)
 
 clear-entries-requires : tie.Need-clear-entries-requires
 clear-entries-requires c κs = search needs
@@ -33,7 +36,17 @@ same-length-4 : tie.Need-same-length-4
 same-length-4 c = search needs
 
 returns-2 : tie.Need-returns-2
-returns-2 c = let a = c .before .before .before .before .before .before .before .before .before .before .before .before .before .before .before .before .before .before .before .before .before .before .args in set-up-done (a .s) (stateOf (a .store .now) (a .forward .now) (a .reverse .now) (a .rows .now) (a .counts .now) (a .control)) (c .before .before .before .before .before .before .before .before .before .before .before .before .before .before .before .before .fit-number .result) (c .before .before .before .before .before .before .before .before .before .before .before .before .before .before .before .before .fit-number .ensures) (c .before .before .before .before .before .before .before .before .before .before .before .before .before .before .before .if1 .left) _ _ _ _ (c .before .before .before .before .before .before .before .before .before .before .before .before .before .clear-entries .ensures) (c .before .before .before .before .before .before .before .before .before .clear-entries2 .ensures) (c .before .before .before .before .reset .ensures .0) (c .before .before .before .before .reset .ensures .1)
+returns-2 c =
+    let a =
+    c .before .before .before .before .before .before .before .before .before .before .before .before .before .before .before .before .before .before .before .before .before .before .args in
+    let σ = stateOf (a .store .now) (a .forward .now) (a .reverse .now) (a .rows .now) (a .counts .now) (a .control) in
+    set-up-done (a .s) σ
+    (c .before .before .before .before .before .before .before .before .before .before .before .before .before .before .before .before .fit-number .result)
+    (c .before .before .before .before .before .before .before .before .before .before .before .before .before .before .before .before .fit-number .ensures)
+    (c .before .before .before .before .before .before .before .before .before .before .before .before .before .before .before .if1 .left) _ _ _ _
+    (c .before .before .before .before .before .before .before .before .before .before .before .before .before .clear-entries .ensures)
+    (c .before .before .before .before .before .before .before .before .before .clear-entries2 .ensures)
+    (c .before .before .before .before .reset .ensures .0) (c .before .before .before .before .reset .ensures .1)
 
 pub set-up-spec : {M : Type 1} → statement M
 set-up-spec =

@@ -15,7 +15,10 @@ same-length-2 : tie.Need-same-length-2
 same-length-2 c = search needs
 
 returns : tie.Need-returns
-returns c = let a = c .before .before .before .before .before .before .before .before .before .args in tick-refused (a .s) (stateOf (a .store .now) (a .forward .now) (a .reverse .now) (a .rows .now) (a .counts .now) (a .control)) _ (c .before .tick-number .ensures) (c .if1 .taken)
+returns c =
+    let a = c .before .before .before .before .before .before .before .before .before .args in
+    let σ = stateOf (a .store .now) (a .forward .now) (a .reverse .now) (a .rows .now) (a .counts .now) (a .control) in
+    tick-refused (a .s) σ _ (c .before .tick-number .ensures) (c .if1 .taken)
 
 reset-requires : tie.Need-reset-requires
 reset-requires c κs = search needs
@@ -27,7 +30,13 @@ same-length-4 : tie.Need-same-length-4
 same-length-4 c = search needs
 
 returns-2 : tie.Need-returns-2
-returns-2 c = let a = c .before .before .before .before .before .before .before .before .before .before .before .before .before .before .before .before .args in tick-done (a .s) (stateOf (a .store .now) (a .forward .now) (a .reverse .now) (a .rows .now) (a .counts .now) (a .control)) (c .before .before .before .before .before .before .before .before .tick-number .result) (c .before .before .before .before .before .before .before .before .tick-number .ensures) (c .before .before .before .before .before .before .before .if1 .left) _ _ (c .before .before .before .before .reset .ensures .0) (c .before .before .before .before .reset .ensures .1)
+returns-2 c =
+    let a = c .before .before .before .before .before .before .before .before .before .before .before .before .before .before .before .before .args in
+    let σ = stateOf (a .store .now) (a .forward .now) (a .reverse .now) (a .rows .now) (a .counts .now) (a .control) in
+    tick-done (a .s) σ (c .before .before .before .before .before .before .before .before .tick-number .result)
+    (c .before .before .before .before .before .before .before .before .tick-number .ensures)
+    (c .before .before .before .before .before .before .before .if1 .left) _ _ (c .before .before .before .before .reset .ensures .0)
+    (c .before .before .before .before .reset .ensures .1)
 
 pub tick-spec : {M : Type 1} → statement M
 tick-spec =

@@ -22,10 +22,25 @@ cast-write-row : tie.Need-cast-write-row
 cast-write-row c = search needs
 
 write-row-requires : tie.Need-write-row-requires
-write-row-requires c κs = let a = c .before .before .before .before .before .before .before .before .before .before .before .before .before .before .before .before .before .before .args in (bytes-fit (a .s) (stateOf (a .store .now) (a .forward .now) (a .reverse .now) (a .rows .now) (a .counts .now) (a .control)) (a .row) (a .column) (c .before .before .before .before .before .before .before .before .before .before .before .write-span .result) (a .bytes .now) (c .before .before .before .before .before .before .before .before .before .before .before .write-span .ensures) (c .before .before .before .verdict2 .given .0 .0) (c .before .before .before .verdict2 .given .0 .1 .0) (c .before .before .before .verdict2 .given .0 .1 .1 .0) (sym (c .before .before .before .verdict2 .given .1) ∙ c .before .before .before .before .before .judge .ensures), place-inside (a .s) (stateOf (a .store .now) (a .forward .now) (a .reverse .now) (a .rows .now) (a .counts .now) (a .control)) (a .row) (c .before .before .before .before .before .before .before .before .before .before .before .write-span .result) (c .before .before .before .verdict2 .given .0 .0) (c .before .before .before .verdict2 .given .0 .1 .0) (c .before .before .before .verdict2 .given .0 .1 .1 .0) (sym (c .before .before .before .verdict2 .given .1) ∙ c .before .before .before .before .before .judge .ensures))
+write-row-requires c κs =
+    let a =
+    c .before .before .before .before .before .before .before .before .before .before .before .before .before .before .before .before .before .before .args in
+    let σ = stateOf (a .store .now) (a .forward .now) (a .reverse .now) (a .rows .now) (a .counts .now) (a .control) in
+    (bytes-fit (a .s) σ (a .row) (a .column) (c .before .before .before .before .before .before .before .before .before .before .before .write-span .result) (a .bytes .now) (c .before .before .before .before .before .before .before .before .before .before .before .write-span .ensures) (c .before .before .before .verdict2 .given .0 .0) (c .before .before .before .verdict2 .given .0 .1 .0) (c .before .before .before .verdict2 .given .0 .1 .1 .0) (sym (c .before .before .before .verdict2 .given .1) ∙ c .before .before .before .before .before .judge .ensures), place-inside (a .s) σ (a .row) (c .before .before .before .before .before .before .before .before .before .before .before .write-span .result) (c .before .before .before .verdict2 .given .0 .0) (c .before .before .before .verdict2 .given .0 .1 .0) (c .before .before .before .verdict2 .given .0 .1 .1 .0) (sym (c .before .before .before .verdict2 .given .1) ∙ c .before .before .before .before .before .judge .ensures))
 
 settle-requires : tie.Need-settle-requires
-settle-requires c κs = let a = c .before .before .before .before .before .before .before .before .before .before .before .before .before .before .before .before .before .before .before .before .before .before .before .before .before .before .args in decided (a .s) (stateOf (a .store .now) (a .forward .now) (a .reverse .now) (a .rows .now) (a .counts .now) (a .control)) (a .row) (c .before .before .before .before .before .before .before .before .before .before .before .before .before .before .before .before .before .before .before .write-span .result) (c .before .before .before .before .before .before .before .before .before .before .before .verdict2 .given .0 .0) (c .before .before .before .before .before .before .before .before .before .before .before .verdict2 .given .0 .1 .0) (c .before .before .before .before .before .before .before .before .before .before .before .verdict2 .given .0 .1 .1 .0) (sym (c .before .before .before .before .before .before .before .before .before .before .before .verdict2 .given .1) ∙ c .before .before .before .before .before .before .before .before .before .before .before .before .before .judge .ensures) (c .before .before .before .before .before .before .before .write-row .last .0) (written-long (a .s) (stateOf (a .store .now) (a .forward .now) (a .reverse .now) (a .rows .now) (a .counts .now) (a .control)) (a .row) (a .column) (c .before .before .before .before .before .before .before .before .before .before .before .before .before .before .before .before .before .before .before .write-span .result) (a .bytes .now) (c .before .before .before .before .before .before .before .before .before .before .before .before .before .before .before .before .before .before .before .write-span .ensures) (c .before .before .before .before .before .before .before .before .before .before .before .verdict2 .given .0 .0) (c .before .before .before .before .before .before .before .before .before .before .before .verdict2 .given .0 .1 .0) (c .before .before .before .before .before .before .before .before .before .before .before .verdict2 .given .0 .1 .1 .0) (sym (c .before .before .before .before .before .before .before .before .before .before .before .verdict2 .given .1) ∙ c .before .before .before .before .before .before .before .before .before .before .before .before .before .judge .ensures) (c .before .before .before .before .before .before .before .write-row .last .0) (c .before .before .before .before .before .before .before .write-row .ensures))
+settle-requires c κs =
+    let a =
+    c .before .before .before .before .before .before .before .before .before .before .before .before .before .before .before .before .before .before .before .before .before .before .before .before .before .before .args in
+    let σ = stateOf (a .store .now) (a .forward .now) (a .reverse .now) (a .rows .now) (a .counts .now) (a .control) in
+    decided (a .s) σ (a .row)
+    (c .before .before .before .before .before .before .before .before .before .before .before .before .before .before .before .before .before .before .before .write-span .result)
+    (c .before .before .before .before .before .before .before .before .before .before .before .verdict2 .given .0 .0)
+    (c .before .before .before .before .before .before .before .before .before .before .before .verdict2 .given .0 .1 .0)
+    (c .before .before .before .before .before .before .before .before .before .before .before .verdict2 .given .0 .1 .1 .0)
+    (sym (c .before .before .before .before .before .before .before .before .before .before .before .verdict2 .given .1) ∙ c .before .before .before .before .before .before .before .before .before .before .before .before .before .judge .ensures)
+    (c .before .before .before .before .before .before .before .write-row .last .0)
+    (written-long (a .s) σ (a .row) (a .column) (c .before .before .before .before .before .before .before .before .before .before .before .before .before .before .before .before .before .before .before .write-span .result) (a .bytes .now) (c .before .before .before .before .before .before .before .before .before .before .before .before .before .before .before .before .before .before .before .write-span .ensures) (c .before .before .before .before .before .before .before .before .before .before .before .verdict2 .given .0 .0) (c .before .before .before .before .before .before .before .before .before .before .before .verdict2 .given .0 .1 .0) (c .before .before .before .before .before .before .before .before .before .before .before .verdict2 .given .0 .1 .1 .0) (sym (c .before .before .before .before .before .before .before .before .before .before .before .verdict2 .given .1) ∙ c .before .before .before .before .before .before .before .before .before .before .before .before .before .judge .ensures) (c .before .before .before .before .before .before .before .write-row .last .0) (c .before .before .before .before .before .before .before .write-row .ensures))
 
 same-length : tie.Need-same-length
 same-length c = search needs
@@ -43,7 +58,12 @@ same-length-5 : tie.Need-same-length-5
 same-length-5 c = search needs
 
 returns : tie.Need-returns
-returns c = let a = c .before .before .before .before .before .before .before .before .before .before .before .before .before .before .before .before .args in write-refused (a .s) (stateOf (a .store .now) (a .forward .now) (a .reverse .now) (a .rows .now) (a .counts .now) (a .control)) (a .row) (a .column) (c .before .before .before .before .before .before .before .before .before .write-span .result) (a .bytes .now) (c .before .before .before .before .before .before .before .before .before .write-span .ensures) _ (sym (c .before .verdict .given .1) ∙ c .before .before .before .judge .ensures)
+returns c =
+    let a = c .before .before .before .before .before .before .before .before .before .before .before .before .before .before .before .before .args in
+    let σ = stateOf (a .store .now) (a .forward .now) (a .reverse .now) (a .rows .now) (a .counts .now) (a .control) in
+    write-refused (a .s) σ (a .row) (a .column) (c .before .before .before .before .before .before .before .before .before .write-span .result)
+    (a .bytes .now) (c .before .before .before .before .before .before .before .before .before .write-span .ensures) _
+    (sym (c .before .verdict .given .1) ∙ c .before .before .before .judge .ensures)
 
 same-length-6 : tie.Need-same-length-6
 same-length-6 c = search needs
@@ -61,7 +81,21 @@ same-length-10 : tie.Need-same-length-10
 same-length-10 c = search needs
 
 returns-2 : tie.Need-returns-2
-returns-2 c = let a = c .before .before .before .before .before .before .before .before .before .before .before .before .before .before .before .before .before .before .before .before .before .before .before .before .before .before .before .before .before .before .before .before .before .before .before .before .before .args in write-served (a .s) (stateOf (a .store .now) (a .forward .now) (a .reverse .now) (a .rows .now) (a .counts .now) (a .control)) (a .row) (a .column) (c .before .before .before .before .before .before .before .before .before .before .before .before .before .before .before .before .before .before .before .before .before .before .before .before .before .before .before .before .before .before .write-span .result) (a .bytes .now) (c .before .before .before .before .before .before .before .before .before .before .before .before .before .before .before .before .before .before .before .before .before .before .before .before .before .before .before .before .before .before .write-span .ensures) (c .before .before .before .before .before .before .before .before .before .before .before .before .before .before .before .before .before .before .before .before .before .before .verdict2 .given .0 .0) (c .before .before .before .before .before .before .before .before .before .before .before .before .before .before .before .before .before .before .before .before .before .before .verdict2 .given .0 .1 .0) (c .before .before .before .before .before .before .before .before .before .before .before .before .before .before .before .before .before .before .before .before .before .before .verdict2 .given .0 .1 .1 .0) (sym (c .before .before .before .before .before .before .before .before .before .before .before .before .before .before .before .before .before .before .before .before .before .before .verdict2 .given .1) ∙ c .before .before .before .before .before .before .before .before .before .before .before .before .before .before .before .before .before .before .before .before .before .before .before .before .judge .ensures) (c .before .before .before .before .before .before .before .before .before .before .before .before .before .before .before .before .before .before .write-row .last .0) (c .before .before .before .before .before .before .before .before .before .before .before .before .before .before .before .before .before .before .write-row .ensures) _ (c .before .before .before .before .before .before .before .before .before .before .settle .ensures)
+returns-2 c =
+    let a =
+    c .before .before .before .before .before .before .before .before .before .before .before .before .before .before .before .before .before .before .before .before .before .before .before .before .before .before .before .before .before .before .before .before .before .before .before .before .before .args in
+    let σ = stateOf (a .store .now) (a .forward .now) (a .reverse .now) (a .rows .now) (a .counts .now) (a .control) in
+    write-served (a .s) σ (a .row) (a .column)
+    (c .before .before .before .before .before .before .before .before .before .before .before .before .before .before .before .before .before .before .before .before .before .before .before .before .before .before .before .before .before .before .write-span .result)
+    (a .bytes .now)
+    (c .before .before .before .before .before .before .before .before .before .before .before .before .before .before .before .before .before .before .before .before .before .before .before .before .before .before .before .before .before .before .write-span .ensures)
+    (c .before .before .before .before .before .before .before .before .before .before .before .before .before .before .before .before .before .before .before .before .before .before .verdict2 .given .0 .0)
+    (c .before .before .before .before .before .before .before .before .before .before .before .before .before .before .before .before .before .before .before .before .before .before .verdict2 .given .0 .1 .0)
+    (c .before .before .before .before .before .before .before .before .before .before .before .before .before .before .before .before .before .before .before .before .before .before .verdict2 .given .0 .1 .1 .0)
+    (sym (c .before .before .before .before .before .before .before .before .before .before .before .before .before .before .before .before .before .before .before .before .before .before .verdict2 .given .1) ∙ c .before .before .before .before .before .before .before .before .before .before .before .before .before .before .before .before .before .before .before .before .before .before .before .before .judge .ensures)
+    (c .before .before .before .before .before .before .before .before .before .before .before .before .before .before .before .before .before .before .write-row .last .0)
+    (c .before .before .before .before .before .before .before .before .before .before .before .before .before .before .before .before .before .before .write-row .ensures)
+    _ (c .before .before .before .before .before .before .before .before .before .before .settle .ensures)
 
 pub write-spec : {M : Type 1} → statement M
 write-spec =

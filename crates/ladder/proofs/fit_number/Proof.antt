@@ -17,18 +17,24 @@ limit-holds-requires c κs = search needs
 
 returns-2 : tie.Need-returns-2
 unfolding fitNumber rung _▹_
-returns-2 c = simp (told-yes (c .before .before .before .ranges-hold .ensures) (c .before .before .if1 .left), told-not (c .before .limit-holds .ensures) (c .if2 .taken))
+returns-2 c =
+    simp
+    (told-yes (c .before .before .before .ranges-hold .ensures) (c .before .before .if1 .left), told-not (c .before .limit-holds .ensures) (c .if2 .taken))
 
 lengths-hold-requires : tie.Need-lengths-hold-requires
 lengths-hold-requires c κs = search needs
 
 returns-3 : tie.Need-returns-3
 unfolding fitNumber rung _▹_
-returns-3 c = simp (told-yes (c .before .before .before .before .before .ranges-hold .ensures) (c .before .before .before .before .if1 .left), told-yes (c .before .before .before .limit-holds .ensures) (c .before .before .if2 .left), told-not (c .before .lengths-hold .ensures) (c .if3 .taken))
+returns-3 c =
+    simp
+    (told-yes (c .before .before .before .before .before .ranges-hold .ensures) (c .before .before .before .before .if1 .left), told-yes (c .before .before .before .limit-holds .ensures) (c .before .before .if2 .left), told-not (c .before .lengths-hold .ensures) (c .if3 .taken))
 
 returns-4 : tie.Need-returns-4
 unfolding fitNumber rung _▹_
-returns-4 c = simp (told-yes (c .before .before .before .before .before .ranges-hold .ensures) (c .before .before .before .before .if1 .left), told-yes (c .before .before .before .limit-holds .ensures) (c .before .before .if2 .left), told-yes (c .before .lengths-hold .ensures) (c .if3 .left))
+returns-4 c =
+    simp
+    (told-yes (c .before .before .before .before .before .ranges-hold .ensures) (c .before .before .before .before .if1 .left), told-yes (c .before .before .before .limit-holds .ensures) (c .before .before .if2 .left), told-yes (c .before .lengths-hold .ensures) (c .if3 .left))
 
 pub fit-number-spec : {M : Type 1} → statement M
 fit-number-spec =

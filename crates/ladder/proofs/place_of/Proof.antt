@@ -21,7 +21,9 @@ slot-row-requires : tie.Need-slot-row-requires
 slot-row-requires c κs = search needs
 
 returns-2 : tie.Need-returns-2
-returns-2 c = simp (sym (c .before .before .before .is-empty .ensures) ∙ c .before .before .if1 .left) (c .slot-row .ensures ∙ ap (slotRowOf (c .before .before .before .before .args .s)) (c .before .slot .ensures))
+returns-2 c =
+    simp (sym (c .before .before .before .is-empty .ensures) ∙ c .before .before .if1 .left)
+    (c .slot-row .ensures ∙ ap (slotRowOf (c .before .before .before .before .args .s)) (c .before .slot .ensures))
 
 pub place-of-spec : {M : Type 1} → statement M
 place-of-spec =

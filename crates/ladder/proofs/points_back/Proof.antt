@@ -40,7 +40,11 @@ cast-result c = omega (arith, c .shared-slice-known2 .given (c .before .before .
 
 returns-3 : tie.Need-returns-3
 unfolding pointsBack
-returns-3 c = let a = c .before .before .before .before .before .before .before .args in simp (sym (c .before .before .before .before .before .is-empty .ensures) ∙ c .before .before .before .before .if1 .left, lt-ltb (a .entry .0) (a .limit) (c .before .before .if2 .left)) (ap (λ (v : ℕ). eqb v (a .x)) (getD-any (a .other .now) (a .entry .0) 0 empty (omega arith)))
+returns-3 c =
+    let a = c .before .before .before .before .before .before .before .args in
+    simp
+    (sym (c .before .before .before .before .before .is-empty .ensures) ∙ c .before .before .before .before .if1 .left, lt-ltb (a .entry .0) (a .limit) (c .before .before .if2 .left))
+    (ap (λ (v : ℕ). eqb v (a .x)) (getD-any (a .other .now) (a .entry .0) 0 empty (omega arith)))
 
 pub points-back-spec : {M : Type 1} → statement M
 points-back-spec =

@@ -21,10 +21,15 @@ rise-requires : tie.Need-rise-requires
 rise-requires c κs = search needs
 
 add-if1 : tie.Need-add-if1
-add-if1 c = let a = c .before .before .before .before .args in omega (arith, c .before .rise .ensures, rise-from-most (a .control .head) (a .entry .0))
+add-if1 c =
+    let a = c .before .before .before .before .args in
+    omega (arith, c .before .rise .ensures, rise-from-most (a .control .head) (a .entry .0))
 
 returns : tie.Need-returns
-returns c = let a = c .before .before .before .before .before .before .args in no-room (a .s) (a .control) (a .entry .0) (a .place) (a .choice) (a .forward .now) (a .reverse .now) _ (omega (arith, c .if1 .taken, c .before .before .before .rise .ensures))
+returns c =
+    let a = c .before .before .before .before .before .before .args in
+    no-room (a .s) (a .control) (a .entry .0) (a .place) (a .choice) (a .forward .now) (a .reverse .now) _
+    (omega (arith, c .if1 .taken, c .before .before .before .rise .ensures))
 
 destination-requires : tie.Need-destination-requires
 destination-requires c κs = search needs
@@ -36,28 +41,61 @@ mul-t15 : tie.Need-mul-t15
 mul-t15 c = search needs
 
 shared-slice-read-t17 : tie.Need-shared-slice-read-t17
-shared-slice-read-t17 c = let a = c .before .before .before .before .before .before .before .before .args in omega (arith, c .before .destination .ensures, destination-from-in (a .s) (a .control .head) (a .entry .0) (omega arith))
+shared-slice-read-t17 c =
+    let a = c .before .before .before .before .before .before .before .before .args in
+    omega (arith, c .before .destination .ensures, destination-from-in (a .s) (a .control .head) (a .entry .0) (omega arith))
 
 points-back-requires : tie.Need-points-back-requires
 points-back-requires c κs = search needs
 
 returns-2 : tie.Need-returns-2
-returns-2 c = let a = c .before .before .before .before .before .before .before .before .before .before .args in unsound (a .s) (a .control) (a .entry .0) (a .place) (a .choice) (a .forward .now) (a .reverse .now) (c .before .before .before .destination .result) (omega (arith, c .before .before .before .before .if1 .left, c .before .before .before .before .before .before .before .rise .ensures)) (getD (a .reverse .now) (c .before .before .before .destination .result) 0) (getD-any (a .reverse .now) (c .before .before .before .destination .result) 0 empty (omega (arith, c .before .before .before .destination .ensures, destination-from-in (a .s) (a .control .head) (a .entry .0) (omega arith)))) (told-not (c .before .points-back .ensures) (c .if2 .taken)) ∙ ap (λ (d : ℕ). quarantineOf (a .s) (a .control) (a .entry .0) (a .place) (a .choice) (a .forward .now) (a .reverse .now) d) (c .before .before .before .destination .ensures)
+returns-2 c =
+    let a = c .before .before .before .before .before .before .before .before .before .before .args in
+    unsound (a .s) (a .control) (a .entry .0) (a .place) (a .choice) (a .forward .now) (a .reverse .now) (c .before .before .before .destination .result)
+    (omega (arith, c .before .before .before .before .if1 .left, c .before .before .before .before .before .before .before .rise .ensures))
+    (getD (a .reverse .now) (c .before .before .before .destination .result) 0)
+    (getD-any (a .reverse .now) (c .before .before .before .destination .result) 0 empty (omega (arith, c .before .before .before .destination .ensures, destination-from-in (a .s) (a .control .head) (a .entry .0) (omega arith))))
+    (told-not (c .before .points-back .ensures) (c .if2 .taken))
+    ∙ ap (λ (d : ℕ). quarantineOf (a .s) (a .control) (a .entry .0) (a .place) (a .choice) (a .forward .now) (a .reverse .now) d)
+    (c .before .before .before .destination .ensures)
 
 cast-t17 : tie.Need-cast-t17
-cast-t17 c = let a = c .before .before .before .before .before .before .before .before .before .before .args in omega (arith, c .before .before .before .destination .ensures, destination-from-in (a .s) (a .control .head) (a .entry .0) (omega arith))
+cast-t17 c =
+    let a = c .before .before .before .before .before .before .before .before .before .before .args in
+    omega (arith, c .before .before .before .destination .ensures, destination-from-in (a .s) (a .control .head) (a .entry .0) (omega arith))
 
 is-empty-requires : tie.Need-is-empty-requires
 is-empty-requires c κs = search needs
 
 returns-3 : tie.Need-returns-3
-returns-3 c = let a = c .before .before .before .before .before .before .before .before .before .before .before .before .args in sound-to (a .s) (a .control) (a .entry .0) (a .place) (a .choice) (a .forward .now) (a .reverse .now) (c .before .before .before .before .before .destination .result) (omega (arith, c .before .before .before .before .before .before .if1 .left, c .before .before .before .before .before .before .before .before .before .rise .ensures)) (getD (a .reverse .now) (c .before .before .before .before .before .destination .result) 0) (getD-any (a .reverse .now) (c .before .before .before .before .before .destination .result) 0 empty (omega (arith, c .before .before .before .before .before .destination .ensures, destination-from-in (a .s) (a .control .head) (a .entry .0) (omega arith)))) (told-yes (c .before .before .before .points-back .ensures) (c .before .before .if2 .left)) (sym (c .before .is-empty .ensures) ∙ c .if3 .taken) ∙ ap (λ (d : ℕ). quarantineOf (a .s) (a .control) (a .entry .0) (a .place) (a .choice) (a .forward .now) (a .reverse .now) d) (c .before .before .before .before .before .destination .ensures)
+returns-3 c =
+    let a = c .before .before .before .before .before .before .before .before .before .before .before .before .args in
+    sound-to (a .s) (a .control) (a .entry .0) (a .place) (a .choice) (a .forward .now) (a .reverse .now)
+    (c .before .before .before .before .before .destination .result)
+    (omega (arith, c .before .before .before .before .before .before .if1 .left, c .before .before .before .before .before .before .before .before .before .rise .ensures))
+    (getD (a .reverse .now) (c .before .before .before .before .before .destination .result) 0)
+    (getD-any (a .reverse .now) (c .before .before .before .before .before .destination .result) 0 empty (omega (arith, c .before .before .before .before .before .destination .ensures, destination-from-in (a .s) (a .control .head) (a .entry .0) (omega arith))))
+    (told-yes (c .before .before .before .points-back .ensures) (c .before .before .if2 .left)) (sym (c .before .is-empty .ensures) ∙ c .if3 .taken)
+    ∙ ap (λ (d : ℕ). quarantineOf (a .s) (a .control) (a .entry .0) (a .place) (a .choice) (a .forward .now) (a .reverse .now) d)
+    (c .before .before .before .before .before .destination .ensures)
 
 row-requires : tie.Need-row-requires
 row-requires c κs = search needs
 
 returns-4 : tie.Need-returns-4
-returns-4 c = let a = c .before .before .before .before .before .before .before .before .before .before .before .before .before .args in ap (λ (v : VisibleRow). Go (a .place) (a .choice) (OverSlot (slot (c .before .before .before .before .before .before .destination .result)) v)) (c .row .ensures) ∙ sound-over (a .s) (a .control) (a .entry .0) (a .place) (a .choice) (a .forward .now) (a .reverse .now) (c .before .before .before .before .before .before .destination .result) (omega (arith, c .before .before .before .before .before .before .before .if1 .left, c .before .before .before .before .before .before .before .before .before .before .rise .ensures)) (getD (a .reverse .now) (c .before .before .before .before .before .before .destination .result) 0) (getD-any (a .reverse .now) (c .before .before .before .before .before .before .destination .result) 0 empty (omega (arith, c .before .before .before .before .before .before .destination .ensures, destination-from-in (a .s) (a .control .head) (a .entry .0) (omega arith)))) (told-yes (c .before .before .before .before .points-back .ensures) (c .before .before .before .if2 .left)) (sym (c .before .before .is-empty .ensures) ∙ c .before .if3 .left) ∙ ap (λ (d : ℕ). quarantineOf (a .s) (a .control) (a .entry .0) (a .place) (a .choice) (a .forward .now) (a .reverse .now) d) (c .before .before .before .before .before .before .destination .ensures)
+returns-4 c =
+    let a = c .before .before .before .before .before .before .before .before .before .before .before .before .before .args in
+    ap (λ (v : VisibleRow). Go (a .place) (a .choice) (OverSlot (slot (c .before .before .before .before .before .before .destination .result)) v))
+    (c .row .ensures)
+    ∙ sound-over (a .s) (a .control) (a .entry .0) (a .place) (a .choice) (a .forward .now) (a .reverse .now)
+    (c .before .before .before .before .before .before .destination .result)
+    (omega (arith, c .before .before .before .before .before .before .before .if1 .left, c .before .before .before .before .before .before .before .before .before .before .rise .ensures))
+    (getD (a .reverse .now) (c .before .before .before .before .before .before .destination .result) 0)
+    (getD-any (a .reverse .now) (c .before .before .before .before .before .before .destination .result) 0 empty (omega (arith, c .before .before .before .before .before .before .destination .ensures, destination-from-in (a .s) (a .control .head) (a .entry .0) (omega arith))))
+    (told-yes (c .before .before .before .before .points-back .ensures) (c .before .before .before .if2 .left))
+    (sym (c .before .before .is-empty .ensures) ∙ c .before .if3 .left)
+    ∙ ap (λ (d : ℕ). quarantineOf (a .s) (a .control) (a .entry .0) (a .place) (a .choice) (a .forward .now) (a .reverse .now) d)
+    (c .before .before .before .before .before .before .destination .ensures)
 
 pub quarantine-spec : {M : Type 1} → statement M
 quarantine-spec =

@@ -11,16 +11,27 @@ fit-number-requires : tie.Need-fit-number-requires
 fit-number-requires c κs = search needs
 
 returns : tie.Need-returns
-returns c = let a = c .before .before .before .before .before .before .before .args in tick-stops (a .s) (stateOf (a .store .now) (a .forward .now) (a .reverse .now) (a .rows .now) (a .counts .now) (a .control)) _ (c .before .fit-number .ensures) (c .if1 .taken)
+returns c =
+    let a = c .before .before .before .before .before .before .before .args in
+    let σ = stateOf (a .store .now) (a .forward .now) (a .reverse .now) (a .rows .now) (a .counts .now) (a .control) in
+    tick-stops (a .s) σ _ (c .before .fit-number .ensures) (c .if1 .taken)
 
 control-holds-requires : tie.Need-control-holds-requires
 control-holds-requires c κs = search needs
 
 returns-2 : tie.Need-returns-2
-returns-2 c = let a = c .before .before .before .before .before .before .before .before .before .args in tick-4 (a .s) (stateOf (a .store .now) (a .forward .now) (a .reverse .now) (a .rows .now) (a .counts .now) (a .control)) (sym (c .before .before .before .fit-number .ensures) ∙ c .before .before .if1 .left) (told-not (c .before .control-holds .ensures) (c .if2 .taken))
+returns-2 c =
+    let a = c .before .before .before .before .before .before .before .before .before .args in
+    let σ = stateOf (a .store .now) (a .forward .now) (a .reverse .now) (a .rows .now) (a .counts .now) (a .control) in
+    tick-4 (a .s) σ (sym (c .before .before .before .fit-number .ensures) ∙ c .before .before .if1 .left)
+    (told-not (c .before .control-holds .ensures) (c .if2 .taken))
 
 returns-3 : tie.Need-returns-3
-returns-3 c = let a = c .before .before .before .before .before .before .before .before .before .args in tick-0 (a .s) (stateOf (a .store .now) (a .forward .now) (a .reverse .now) (a .rows .now) (a .counts .now) (a .control)) (sym (c .before .before .before .fit-number .ensures) ∙ c .before .before .if1 .left) (told-yes (c .before .control-holds .ensures) (c .if2 .left))
+returns-3 c =
+    let a = c .before .before .before .before .before .before .before .before .before .args in
+    let σ = stateOf (a .store .now) (a .forward .now) (a .reverse .now) (a .rows .now) (a .counts .now) (a .control) in
+    tick-0 (a .s) σ (sym (c .before .before .before .fit-number .ensures) ∙ c .before .before .if1 .left)
+    (told-yes (c .before .control-holds .ensures) (c .if2 .left))
 
 pub tick-number-spec : {M : Type 1} → statement M
 tick-number-spec =

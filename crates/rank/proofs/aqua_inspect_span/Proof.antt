@@ -12,16 +12,25 @@ inspect-number-requires : tie.Need-inspect-number-requires
 inspect-number-requires c κs = search needs
 
 returns : tie.Need-returns
-returns c = let a = c .before .before .before .before .before .before .before .args in part-none (a .s) (stateOf (a .store .now) (a .forward .now) (a .reverse .now) (a .rows .now) (a .counts .now) (a .control)) (a .row) (c .before .inspect-number .result) (c .before .inspect-number .ensures) (c .if1 .taken)
+returns c =
+    let a = c .before .before .before .before .before .before .before .args in
+    let σ = stateOf (a .store .now) (a .forward .now) (a .reverse .now) (a .rows .now) (a .counts .now) (a .control) in
+    part-none (a .s) σ (a .row) (c .before .inspect-number .result) (c .before .inspect-number .ensures) (c .if1 .taken)
 
 cast-t14 : tie.Need-cast-t14
-cast-t14 c = let a = c .before .before .before .before .before .before .before .args in omega (arith, row-small (a .s) (stateOf (a .store .now) (a .forward .now) (a .reverse .now) (a .rows .now) (a .counts .now) (a .control)) (a .row) (c .before .inspect-number .result) (c .before .inspect-number .ensures) (c .if1 .left))
+cast-t14 c =
+    let a = c .before .before .before .before .before .before .before .args in
+    let σ = stateOf (a .store .now) (a .forward .now) (a .reverse .now) (a .rows .now) (a .counts .now) (a .control) in
+    omega (arith, row-small (a .s) σ (a .row) (c .before .inspect-number .result) (c .before .inspect-number .ensures) (c .if1 .left))
 
 mul-t16 : tie.Need-mul-t16
 mul-t16 c = search needs
 
 shared-slice-read-t18 : tie.Need-shared-slice-read-t18
-shared-slice-read-t18 c = let a = c .before .before .before .before .before .before .before .before .args in row-inside (a .s) (stateOf (a .store .now) (a .forward .now) (a .reverse .now) (a .rows .now) (a .counts .now) (a .control)) (a .row) (c .before .before .inspect-number .result) (c .before .before .inspect-number .ensures) (c .before .if1 .left)
+shared-slice-read-t18 c =
+    let a = c .before .before .before .before .before .before .before .before .args in
+    let σ = stateOf (a .store .now) (a .forward .now) (a .reverse .now) (a .rows .now) (a .counts .now) (a .control) in
+    row-inside (a .s) σ (a .row) (c .before .before .inspect-number .result) (c .before .before .inspect-number .ensures) (c .before .if1 .left)
 
 place-of-requires : tie.Need-place-of-requires
 place-of-requires c κs = search needs
@@ -30,11 +39,19 @@ cast-w : tie.Need-cast-w
 cast-w c = search needs
 
 mul-t20 : tie.Need-mul-t20
-mul-t20 c = let a = c .before .before .before .before .before .before .before .before .before .before .args in omega (arith, part-inside (a .s) (stateOf (a .store .now) (a .forward .now) (a .reverse .now) (a .rows .now) (a .counts .now) (a .control)) (a .row) (c .before .before .before .before .inspect-number .result) (c .before .before .before .before .inspect-number .ensures) (c .before .before .before .if1 .left) (c .before .place-of .result) (c .before .place-of .ensures))
+mul-t20 c =
+    let a = c .before .before .before .before .before .before .before .before .before .before .args in
+    let σ = stateOf (a .store .now) (a .forward .now) (a .reverse .now) (a .rows .now) (a .counts .now) (a .control) in
+    omega
+    (arith, part-inside (a .s) σ (a .row) (c .before .before .before .before .inspect-number .result) (c .before .before .before .before .inspect-number .ensures) (c .before .before .before .if1 .left) (c .before .place-of .result) (c .before .place-of .ensures))
 
 returns-2 : tie.Need-returns-2
 unfolding rowBytes
-returns-2 c = let a = c .before .before .before .before .before .before .before .before .before .before .args in part-row (a .s) (stateOf (a .store .now) (a .forward .now) (a .reverse .now) (a .rows .now) (a .counts .now) (a .control)) (a .row) (c .before .before .before .before .inspect-number .result) (c .before .before .before .before .inspect-number .ensures) (c .before .before .before .if1 .left) (c .before .place-of .result) (c .before .place-of .ensures) _ refl
+returns-2 c =
+    let a = c .before .before .before .before .before .before .before .before .before .before .args in
+    let σ = stateOf (a .store .now) (a .forward .now) (a .reverse .now) (a .rows .now) (a .counts .now) (a .control) in
+    part-row (a .s) σ (a .row) (c .before .before .before .before .inspect-number .result) (c .before .before .before .before .inspect-number .ensures)
+    (c .before .before .before .if1 .left) (c .before .place-of .result) (c .before .place-of .ensures) _ refl
 
 pub aqua-inspect-span-spec : {M : Type 1} → statement M
 aqua-inspect-span-spec =

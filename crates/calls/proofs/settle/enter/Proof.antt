@@ -19,7 +19,11 @@ cast-copy-row : tie.Need-cast-copy-row
 cast-copy-row c = search needs
 
 copy-row-requires : tie.Need-copy-row-requires
-copy-row-requires c κs = let a = c .before .before .before .before .before .before .args in let q = c .before .before .before .before .before .before .pre in copy-ready (a .s) (a .store .now) (q .store-long) (a .place .0) (a .s .n + a .d .0) (q .place-in) (omega (arith, q .slot-in)) (q .apart) (a .place) (c .before .before .slot-row .result) refl (c .before .before .slot-row .ensures)
+copy-row-requires c κs =
+    let a = c .before .before .before .before .before .before .args in
+    let q = c .before .before .before .before .before .before .pre in
+    copy-ready (a .s) (a .store .now) (q .store-long) (a .place .0) (a .s .n + a .d .0) (q .place-in) (omega (arith, q .slot-in)) (q .apart) (a .place)
+    (c .before .before .slot-row .result) refl (c .before .before .slot-row .ensures)
 
 cast-at : tie.Need-cast-at
 cast-at c = search needs
@@ -31,7 +35,10 @@ slice-read-t20 : tie.Need-slice-read-t20
 slice-read-t20 c = search needs
 
 leave-requires : tie.Need-leave-requires
-leave-requires c κs = let a = c .before .before .before .before .before .before .before .before .before .before .before .before .args in let q = c .before .before .before .before .before .before .before .before .before .before .before .before .pre in entry-sound (a .forward .now) (a .reverse .now) (a .row .0) (a .s .q) (omega (arith, q .forward-long, q .row-in)) (q .reverse-long) (q .entry-in)
+leave-requires c κs =
+    let a = c .before .before .before .before .before .before .before .before .before .before .before .before .args in
+    let q = c .before .before .before .before .before .before .before .before .before .before .before .before .pre in
+    entry-sound (a .forward .now) (a .reverse .now) (a .row .0) (a .s .q) (omega (arith, q .forward-long, q .row-in)) (q .reverse-long) (q .entry-in)
 
 cast-to : tie.Need-cast-to
 cast-to c = search needs
@@ -67,7 +74,13 @@ rise-requires : tie.Need-rise-requires
 rise-requires c κs = search needs
 
 add-t30 : tie.Need-add-t30
-add-t30 c = let a = c .before .before .before .before .before .before .before .before .before .before .before .before .before .before .before .before .before .before .before .before .before .before .args in let q = c .before .before .before .before .before .before .before .before .before .before .before .before .before .before .before .before .before .before .before .before .before .before .pre in let R = ranges-facts (a .s) (q .ranges) in omega (arith, c .before .rise .ensures, rise-from-most (a .control .head) (getD (a .forward .now) (a .row .0) 0), q .passed-in, R .q-high)
+add-t30 c =
+    let a =
+    c .before .before .before .before .before .before .before .before .before .before .before .before .before .before .before .before .before .before .before .before .before .before .args in
+    let q =
+    c .before .before .before .before .before .before .before .before .before .before .before .before .before .before .before .before .before .before .before .before .before .before .pre in
+    let R = ranges-facts (a .s) (q .ranges) in
+    omega (arith, c .before .rise .ensures, rise-from-most (a .control .head) (getD (a .forward .now) (a .row .0) 0), q .passed-in, R .q-high)
 
 same-length : tie.Need-same-length
 same-length c = search needs
@@ -79,7 +92,20 @@ same-length-3 : tie.Need-same-length-3
 same-length-3 c = search needs
 
 returns : tie.Need-returns
-returns c = let a = c .before .before .before .before .before .before .before .before .before .before .before .before .before .before .before .before .before .before .before .before .before .before .args in let q = c .before .before .before .before .before .before .before .before .before .before .before .before .before .before .before .before .before .before .before .before .before .before .pre in entered (a .s) (a .row .0) (a .place .0) (a .d .0) (tablesOf (a .store .now) (a .forward .now) (a .reverse .now) (a .control)) (c .before .before .before .before .before .before .before .before .before .before .before .before .before .before .before .copy-row .last .0) (getD (a .forward .now) (a .row .0) 0) (c .before .before .before .before .before .before .before .before .before .leave .last .0) (c .before .before .before .before .of-slot .result .0) (c .before .before .before .before .before .of-row .result .0) (c .before .rise .result) (copy-left (a .s .w) (a .store .now) _ (a .place .0) (a .s .n + a .d .0) (a .place) (c .before .before .before .before .before .before .before .before .before .before .before .before .before .before .before .before .before .before .slot-row .result) refl (c .before .before .before .before .before .before .before .before .before .before .before .before .before .before .before .before .before .before .slot-row .ensures) (c .before .before .before .before .before .before .before .before .before .before .before .before .before .before .before .copy-row .ensures)) (entry-read (a .forward .now) (a .row .0) (omega (arith, q .forward-long, q .row-in))) (c .before .before .before .before .before .before .before .before .before .leave .ensures) (ap (λ (e : Entry). e .0) (c .before .before .before .before .of-slot .ensures)) (ap (λ (e : Entry). e .0) (c .before .before .before .before .before .of-row .ensures)) (c .before .rise .ensures)
+returns c =
+    let a =
+    c .before .before .before .before .before .before .before .before .before .before .before .before .before .before .before .before .before .before .before .before .before .before .args in
+    let q =
+    c .before .before .before .before .before .before .before .before .before .before .before .before .before .before .before .before .before .before .before .before .before .before .pre in
+    entered (a .s) (a .row .0) (a .place .0) (a .d .0) (tablesOf (a .store .now) (a .forward .now) (a .reverse .now) (a .control))
+    (c .before .before .before .before .before .before .before .before .before .before .before .before .before .before .before .copy-row .last .0)
+    (getD (a .forward .now) (a .row .0) 0) (c .before .before .before .before .before .before .before .before .before .leave .last .0)
+    (c .before .before .before .before .of-slot .result .0) (c .before .before .before .before .before .of-row .result .0) (c .before .rise .result)
+    (copy-left (a .s .w) (a .store .now) _ (a .place .0) (a .s .n + a .d .0) (a .place) (c .before .before .before .before .before .before .before .before .before .before .before .before .before .before .before .before .before .before .slot-row .result) refl (c .before .before .before .before .before .before .before .before .before .before .before .before .before .before .before .before .before .before .slot-row .ensures) (c .before .before .before .before .before .before .before .before .before .before .before .before .before .before .before .copy-row .ensures))
+    (entry-read (a .forward .now) (a .row .0) (omega (arith, q .forward-long, q .row-in)))
+    (c .before .before .before .before .before .before .before .before .before .leave .ensures)
+    (ap (λ (e : Entry). e .0) (c .before .before .before .before .of-slot .ensures))
+    (ap (λ (e : Entry). e .0) (c .before .before .before .before .before .of-row .ensures)) (c .before .rise .ensures)
 
 pub enter-spec : {M : Type 1} → statement M
 enter-spec =

@@ -19,7 +19,12 @@ cast-copy-row : tie.Need-cast-copy-row
 cast-copy-row c = search needs
 
 copy-row-requires : tie.Need-copy-row-requires
-copy-row-requires c κs = let a = c .before .before .before .before .before .before .args in let q = c .before .before .before .before .before .before .pre in copy-ready (a .s) (a .store .now) (q .store-long) (a .s .n + a .d .0) (a .v .0) (omega (arith, q .slot-in)) (omega (arith, q .row-in)) (λ e. omega (arith, q .row-in)) (c .before .before .before .slot-row .result) (c .before .before .home .result) (c .before .before .before .slot-row .ensures) (c .before .before .home .ensures)
+copy-row-requires c κs =
+    let a = c .before .before .before .before .before .before .args in
+    let q = c .before .before .before .before .before .before .pre in
+    copy-ready (a .s) (a .store .now) (q .store-long) (a .s .n + a .d .0) (a .v .0) (omega (arith, q .slot-in)) (omega (arith, q .row-in))
+    (λ e. omega (arith, q .row-in)) (c .before .before .before .slot-row .result) (c .before .before .home .result)
+    (c .before .before .before .slot-row .ensures) (c .before .before .home .ensures)
 
 cast-at : tie.Need-cast-at
 cast-at c = search needs
@@ -37,7 +42,9 @@ same-length-2 : tie.Need-same-length-2
 same-length-2 c = search needs
 
 returns : tie.Need-returns
-returns c = let a = c .before .before .before .before .before .before .before .before .before .before .args in (copy-left (a .s .w) (a .store .now) _ (a .s .n + a .d .0) (a .v .0) (c .before .before .before .before .before .before .before .slot-row .result) (c .before .before .before .before .before .before .home .result) (c .before .before .before .before .before .before .before .slot-row .ensures) (c .before .before .before .before .before .before .home .ensures) (c .before .before .before .copy-row .ensures), refl)
+returns c =
+    let a = c .before .before .before .before .before .before .before .before .before .before .args in
+    (copy-left (a .s .w) (a .store .now) _ (a .s .n + a .d .0) (a .v .0) (c .before .before .before .before .before .before .before .slot-row .result) (c .before .before .before .before .before .before .home .result) (c .before .before .before .before .before .before .before .slot-row .ensures) (c .before .before .before .before .before .before .home .ensures) (c .before .before .before .copy-row .ensures), refl)
 
 pub send-home-spec : {M : Type 1} → statement M
 send-home-spec =
