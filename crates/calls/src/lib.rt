@@ -53,10 +53,10 @@ pub fn set_up(
         rows: rows.len(),
         counts: counts.len(),
     };
-    let number = ladder::fit_number(s, lent);
-    if number != 0 {
+    let unfit = ladder::fit_number(s, lent);
+    if unfit != 0 {
         return Numbered {
-            number: number,
+            number: unfit,
             control: control,
         };
     }
