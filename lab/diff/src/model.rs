@@ -1,0 +1,333 @@
+//! The engine of document 01, written a second time and from that document alone. An access is first planned without a
+//! change, so a refusal cannot leave a trace, and then carried out. It answers for any settings and any memory.
+//! One deliberate error can be planted, to show that the comparison would find it.
+
+use crate::fault::Fault;
+use crate::memory::{Control, Memory, Settings};
+
+const EMPTY: u16 = 65535;
+
+#[derive(Clone, Copy, PartialEq, Eq, Debug)]
+pub enum Refusal {
+    Setting,
+    Together,
+    Length,
+    Control,
+    Row,
+    Span,
+    RowPointers,
+    Epoch,
+    Spent,
+    Destination,
+}
+
+impl Refusal {
+    pub fn number(self) -> u32 {
+        match self {
+            Refusal::Setting => 1,
+            Refusal::Together => 2,
+            Refusal::Length => 3,
+            Refusal::Control => 4,
+            Refusal::Row => 5,
+            Refusal::Span => 6,
+            Refusal::RowPointers | Refusal::Destination => 7,
+            Refusal::Epoch => 8,
+            Refusal::Spent => 9,
+        }
+    }
+}
+
+/// The answer of an accepted read or write.
+pub struct Served {
+    pub place: usize,
+    pub moved_to: Option<usize>,
+    pub sent_home: Option<usize>,
+}
+
+/// What the tracker makes of an activation.
+enum Sight {
+    Known { entry: usize, estimate: u32 },
+    Taken { entry: usize, estimate: u32 },
+    Unseen,
+}
+
+/// A quarantine that is due.
+struct Journey {
+    to: usize,
+    rise: u32,
+    evicts: Option<usize>,
+}
+
+struct Plan {
+    place: usize,
+    left_slot: Option<usize>,
+    sight: Sight,
+    journey: Option<Journey>,
+}
+
+pub struct Model {
+    pub memory: Memory,
+    fault: Fault,
+}
+
+/// A pointer table entry as the number that it names.
+fn named(table: &[u16], at: usize) -> Option<usize> {
+    table.get(at).filter(|&&entry| entry != EMPTY).map(|&entry| usize::from(entry))
+}
+
+impl Model {
+    pub fn new(memory: Memory, fault: Fault) -> Model {
+        Model { memory, fault }
+    }
+
+    fn planted(&self, fault: Fault) -> bool {
+        self.fault == fault
+    }
+
+    fn judge_settings_and_lengths(&self, s: &Settings) -> Result<(), Refusal> {
+        let ranges = [
+            (s.n, 1..=60_000),
+            (s.q, 2..=5_500),
+            (s.w, 1..=8_192),
+            (s.k, 1..=4_096),
+            (s.a, 1..=65_535),
+            (s.l, 1..=1_360_000),
+        ];
+        if ranges.iter().any(|(value, range)| !range.contains(value)) {
+            return Err(Refusal::Setting);
+        }
+        if u64::from(s.l) >= u64::from(s.a) * (u64::from(s.k) + 1) {
+            return Err(Refusal::Together);
+        }
+        let (n, q, w, k) = (s.n as usize, s.q as usize, s.w as usize, s.k as usize);
+        let m = &self.memory;
+        let lengths = [m.store.len(), m.forward.len(), m.reverse.len(), m.rows.len(), m.counts.len()];
+        if lengths != [(n + q) * w, n, q, k, k] {
+            return Err(Refusal::Length);
+        }
+        Ok(())
+    }
+
+    fn judge_control(&self, s: &Settings) -> Result<(), Refusal> {
+        let Control { head, passed, spill, acts } = self.memory.control;
+        let above = self.memory.counts.iter().max().is_some_and(|&most| most > acts);
+        let spill_high = spill >= s.a && !(self.planted(Fault::SpillAtThresholdTaken) && spill == s.a);
+        let counts_high = above && !self.planted(Fault::CountsNotJudged);
+        let unsound = head >= s.q || passed > s.q || acts > s.l || spill > acts || spill_high || counts_high;
+        if unsound { Err(Refusal::Control) } else { Ok(()) }
+    }
+
+    /// The slot that the row sits in, if any.
+    fn judge_row_pointers(&self, s: &Settings, row: usize) -> Result<Option<usize>, Refusal> {
+        match named(&self.memory.forward, row) {
+            None => Ok(None),
+            Some(slot) if slot < s.q as usize && named(&self.memory.reverse, slot) == Some(row) => Ok(Some(slot)),
+            Some(_) => Err(Refusal::RowPointers),
+        }
+    }
+
+    fn sight(&self, name: usize) -> Sight {
+        let Memory { rows, counts, control, .. } = &self.memory;
+        let mut names = rows.iter().map(|&r| usize::from(r));
+        let known = if self.planted(Fault::HighestNameRules) {
+            names.rposition(|r| r == name)
+        } else {
+            names.position(|r| r == name)
+        };
+        if let Some(entry) = known {
+            return Sight::Known { entry, estimate: counts[entry].wrapping_add(1) };
+        }
+        let mut spare = counts.iter();
+        let spare = if self.planted(Fault::HighestSpareTaken) {
+            spare.rposition(|&c| c == control.spill)
+        } else {
+            spare.position(|&c| c == control.spill)
+        };
+        let first = if self.planted(Fault::EntryStartsAtOne) { 1 } else { control.spill + 1 };
+        spare.map_or(Sight::Unseen, |entry| Sight::Taken { entry, estimate: first })
+    }
+
+    fn judge_journey(&self, s: &Settings, row: usize, sits_in: Option<usize>) -> Result<Journey, Refusal> {
+        let q = s.q as usize;
+        let head = self.memory.control.head as usize;
+        let (to, rise) = if sits_in == Some(head) && !self.planted(Fault::OwnSlotNotPassed) {
+            ((head + 1) % q, 2)
+        } else {
+            (head, 1)
+        };
+        let rise = if self.planted(Fault::PassedRisesByOne) { 1 } else { rise };
+        let spent = self.memory.control.passed + rise > s.q;
+        if spent && !self.planted(Fault::DestinationBeforeSpent) {
+            return Err(Refusal::Spent);
+        }
+        let evicts = match named(&self.memory.reverse, to) {
+            None => None,
+            Some(guest) if named(&self.memory.forward, guest) == Some(to) => Some(guest),
+            Some(guest) if self.planted(Fault::DestinationNotJudged) && guest < s.n as usize && guest != row => {
+                Some(guest)
+            }
+            Some(_) => return Err(Refusal::Destination),
+        };
+        if spent { Err(Refusal::Spent) } else { Ok(Journey { to, rise, evicts }) }
+    }
+
+    fn plan(&self, s: &Settings, row: u32, fits: bool) -> Result<Plan, Refusal> {
+        self.judge_settings_and_lengths(s)?;
+        self.judge_control(s)?;
+        let row_stands = row < s.n;
+        if !fits && (row_stands || self.planted(Fault::SpanBeforeRow)) {
+            return Err(Refusal::Span);
+        }
+        if !row_stands {
+            return Err(Refusal::Row);
+        }
+        let row = row as usize;
+        let full = self.memory.control.acts == s.l;
+        if full && self.planted(Fault::EpochBeforePointers) {
+            return Err(Refusal::Epoch);
+        }
+        let left_slot = self.judge_row_pointers(s, row)?;
+        if full {
+            return Err(Refusal::Epoch);
+        }
+        let place = left_slot.map_or(row, |slot| s.n as usize + slot);
+        let sight = self.sight(if self.planted(Fault::TracksVisibleRow) { row } else { place });
+        let due = match sight {
+            Sight::Known { estimate, .. } | Sight::Taken { estimate, .. } => {
+                estimate % s.a == 0 || (self.planted(Fault::QuarantineFromThresholdOn) && estimate >= s.a)
+            }
+            Sight::Unseen => false,
+        };
+        let journey = if due { Some(self.judge_journey(s, row, left_slot)?) } else { None };
+        Ok(Plan { place, left_slot, sight, journey })
+    }
+
+    fn line(&mut self, s: &Settings, physical: usize) -> &mut [u8] {
+        self.memory.store.chunks_exact_mut(s.w as usize).nth(physical).expect("a physical row")
+    }
+
+    fn copy(&mut self, s: &Settings, from: usize, to: usize) {
+        let carried = self.line(s, from).to_vec();
+        self.line(s, to).copy_from_slice(&carried);
+    }
+
+    fn carry_out(&mut self, s: &Settings, row: usize, plan: Plan, touch: impl FnOnce(&mut [u8])) -> Served {
+        let Plan { place, left_slot, sight, journey } = plan;
+        let seen_as = if self.planted(Fault::TracksVisibleRow) { row } else { place };
+        match sight {
+            Sight::Known { entry, estimate } => self.memory.counts[entry] = estimate,
+            Sight::Taken { entry, estimate } => {
+                self.memory.rows[entry] = seen_as as u16;
+                self.memory.counts[entry] = estimate;
+            }
+            Sight::Unseen => self.memory.control.spill += 1,
+        }
+        self.memory.control.acts += 1;
+        let before = self.line(s, place).to_vec();
+        touch(self.line(s, place));
+        let mut served = Served { place, moved_to: None, sent_home: None };
+        if let Some(Journey { to, rise, evicts }) = journey {
+            let slot_row = s.n as usize + to;
+            if let Some(guest) = evicts {
+                self.copy(s, slot_row, guest);
+                if !self.planted(Fault::SentHomeForwardKept) {
+                    self.memory.forward[guest] = EMPTY;
+                }
+            }
+            self.copy(s, place, slot_row);
+            if self.planted(Fault::CopiedBeforeWritten) {
+                self.line(s, slot_row).copy_from_slice(&before);
+            }
+            if self.planted(Fault::PlaceLeftIsCleared) {
+                self.line(s, place).fill(0);
+            }
+            if let Some(old) = left_slot.filter(|_| !self.planted(Fault::OldReverseKept)) {
+                self.memory.reverse[old] = EMPTY;
+            }
+            self.memory.reverse[to] = row as u16;
+            self.memory.forward[row] = to as u16;
+            self.memory.control.head = ((to + 1) % s.q as usize) as u32;
+            self.memory.control.passed += rise;
+            served.moved_to = Some(to);
+            served.sent_home = evicts;
+        }
+        served
+    }
+
+    fn access(&mut self, s: &Settings, row: u32, fits: bool, touch: impl FnOnce(&mut [u8])) -> Result<Served, Refusal> {
+        match self.plan(s, row, fits) {
+            Ok(plan) => Ok(self.carry_out(s, row as usize, plan, touch)),
+            Err(refusal) => {
+                if self.planted(Fault::RefusedAccessCounts) && refusal == Refusal::Spent {
+                    self.memory.control.acts += 1;
+                }
+                Err(refusal)
+            }
+        }
+    }
+
+    pub fn set_up(&mut self, s: &Settings) -> Result<(), Refusal> {
+        self.judge_settings_and_lengths(s)?;
+        let m = &mut self.memory;
+        m.forward.fill(EMPTY);
+        m.reverse.fill(EMPTY);
+        m.rows.fill(EMPTY);
+        m.counts.fill(0);
+        m.control = Control::default();
+        if self.planted(Fault::SetUpClearsStore) {
+            self.memory.store.fill(0);
+        }
+        Ok(())
+    }
+
+    pub fn read(&mut self, s: &Settings, row: u32, buffer: &mut [u8]) -> Result<Served, Refusal> {
+        let fits = buffer.len() as u64 == u64::from(s.w);
+        let answer = self.access(s, row, fits, |line| buffer.copy_from_slice(line));
+        if self.planted(Fault::RefusedReadFillsBuffer) && matches!(answer, Err(Refusal::Spent | Refusal::Epoch)) {
+            buffer.fill(0);
+        }
+        answer
+    }
+
+    pub fn write(&mut self, s: &Settings, row: u32, column: usize, bytes: &[u8]) -> Result<Served, Refusal> {
+        let end = if self.planted(Fault::ColumnWraps) {
+            Some(column.wrapping_add(bytes.len()))
+        } else {
+            column.checked_add(bytes.len())
+        };
+        let fits = end.is_some_and(|end| end as u64 <= u64::from(s.w));
+        if bytes.is_empty() && self.planted(Fault::EmptyWriteIsNothing) {
+            let plan = self.plan(s, row, fits)?;
+            return Ok(Served { place: plan.place, moved_to: None, sent_home: None });
+        }
+        self.access(s, row, fits, |line| line.iter_mut().skip(column).zip(bytes).for_each(|(to, from)| *to = *from))
+    }
+
+    pub fn tick(&mut self, s: &Settings) -> Result<(), Refusal> {
+        self.judge_settings_and_lengths(s)?;
+        if !self.planted(Fault::TickNotJudged) {
+            self.judge_control(s)?;
+        }
+        let old = self.memory.control;
+        self.memory.rows.fill(EMPTY);
+        self.memory.counts.fill(0);
+        self.memory.control = Control {
+            head: if self.planted(Fault::TickResetsHead) { 0 } else { old.head },
+            spill: if self.planted(Fault::TickKeepsSpill) { old.spill } else { 0 },
+            passed: if self.planted(Fault::TickKeepsPassed) { old.passed } else { 0 },
+            acts: 0,
+        };
+        Ok(())
+    }
+
+    /// The part of the store that holds the row: where it starts, and its length.
+    pub fn inspect(&self, s: &Settings, row: u32) -> Result<(usize, usize), Refusal> {
+        self.judge_settings_and_lengths(s)?;
+        self.judge_control(s)?;
+        if row >= s.n {
+            return Err(Refusal::Row);
+        }
+        let physical = self.judge_row_pointers(s, row as usize)?.map_or(row as usize, |slot| s.n as usize + slot);
+        Ok((physical * s.w as usize, s.w as usize))
+    }
+}

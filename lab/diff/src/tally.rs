@@ -1,0 +1,118 @@
+//! The tally of demand 3, kept from outside: it is fed the calls and, from the answers, the number, the slot moved to
+//! and the row sent home. It sees no table, no tracker and no control record.
+
+use crate::memory::{Answer, Call, Settings, NONE};
+
+/// What one epoch added.
+#[derive(Clone, Copy, PartialEq, Eq, Debug, Default)]
+pub struct Figures {
+    /// Most openings of one home.
+    pub home: u64,
+    /// Most openings of one slot.
+    pub slot: u64,
+    pub quarantines: u64,
+    /// Accesses refused for want of a slot.
+    pub spent: u64,
+}
+
+pub struct Tally {
+    n: usize,
+    places: Vec<usize>,
+    openings: Vec<u64>,
+    quarantines: u64,
+    spent: u64,
+    /// Cumulative counts as they stood when the epoch began.
+    openings_then: Vec<u64>,
+    quarantines_then: u64,
+    spent_then: u64,
+}
+
+impl Tally {
+    /// The tally as set-up leaves it.
+    pub fn new(s: &Settings) -> Tally {
+        let (n, q) = (s.n as usize, s.q as usize);
+        Tally {
+            n,
+            places: (0..n).collect(),
+            openings: vec![0; n + q],
+            quarantines: 0,
+            spent: 0,
+            openings_then: vec![0; n + q],
+            quarantines_then: 0,
+            spent_then: 0,
+        }
+    }
+
+    /// The place of a visible row; none where there is no such row.
+    pub fn place(&self, row: u32) -> Option<usize> {
+        self.places.get(row as usize).copied()
+    }
+
+    /// Takes in one call of the list. An accepted tick gives the figures of the epoch that it ends.
+    pub fn feed(&mut self, call: &Call, answer: &Answer) -> Option<Figures> {
+        match call {
+            Call::Read { row, .. } | Call::Write { row, .. } => {
+                if answer.number == 0 {
+                    self.access(*row as usize, answer.slot, answer.row);
+                } else if answer.number == 9 {
+                    self.spent += 1;
+                }
+                None
+            }
+            Call::Tick if answer.number == 0 => {
+                let figures = self.figures();
+                self.openings_then.clone_from(&self.openings);
+                self.quarantines_then = self.quarantines;
+                self.spent_then = self.spent;
+                Some(figures)
+            }
+            Call::Tick | Call::SetUp | Call::Inspect { .. } => None,
+        }
+    }
+
+    fn access(&mut self, row: usize, slot: u32, sent_home: u32) {
+        let place = self.places[row];
+        self.openings[place] += 1;
+        if slot == NONE {
+            return;
+        }
+        let to = self.n + slot as usize;
+        self.quarantines += 1;
+        self.openings[place] += 1;
+        self.openings[to] += 1;
+        self.places[row] = to;
+        if sent_home != NONE {
+            let home = sent_home as usize;
+            self.openings[to] += 1;
+            self.openings[home] += 1;
+            self.places[home] = home;
+        }
+    }
+
+    /// Openings of one physical row in the epoch so far.
+    pub fn opened(&self, physical: usize) -> u64 {
+        self.openings[physical] - self.openings_then[physical]
+    }
+
+    /// The figures of the epoch so far.
+    pub fn figures(&self) -> Figures {
+        let most = |from: usize, to: usize| (from..to).map(|p| self.opened(p)).max().unwrap_or(0);
+        Figures {
+            home: most(0, self.n),
+            slot: most(self.n, self.openings.len()),
+            quarantines: self.quarantines - self.quarantines_then,
+            spent: self.spent - self.spent_then,
+        }
+    }
+}
+
+/// Judges an epoch's figures by demand 3's bounds.
+pub fn judge(s: &Settings, f: &Figures) -> Result<(), String> {
+    let a = u64::from(s.a);
+    let most = u64::from(s.l / s.a);
+    let holds = f.home <= a + 2
+        && f.slot <= 2 * a + 3
+        && f.quarantines <= most
+        && (u64::from(s.q) < 2 * most || f.spent == 0);
+    if holds { Ok(()) } else { Err(format!("an epoch breaks demand 3's bounds: {f:?} with {s:?}")) }
+}
