@@ -31,7 +31,7 @@ pub fn row_part<'a>(store: &'a [u8], w: usize, p: usize) -> &'a [u8]
 }
 
 // Writes bytes into a part that starts at a row's first byte, from a column on.
-fn put_bytes(part: &mut [u8], column: usize, bytes: &[u8])
+pub fn put_bytes(part: &mut [u8], column: usize, bytes: &[u8])
     requires { ⌜ column + length (now bytes) ≤ length (now part) ⌝ }
     ensures { λ _. ⌜ now (part .exit) ≡ paste (now (part .entry)) column (now (bytes .entry)) (length (now (bytes .entry))) ⌝ }
 {

@@ -1,0 +1,4 @@
+pub mod Stepping
+pub mod Running
+pub mod Blank
+pub mod Judging

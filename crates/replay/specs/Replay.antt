@@ -1,0 +1,41 @@
+-- Document 01, 'Trace program': from the bytes of a trace file to the bytes printed.
+-- Assumes nothing.
+use Prim.Native.Nat.{ℕ}
+use mathlib.Core.Bool.{cond}
+use mathlib.Core.List.{List, [], _∷_}
+use mathlib.Core.Option.{Option, none, some}
+use lib.Dec.{eqb, leb}
+use Rattle.geometry.specs.declared.Settings.{Settings}
+use Rattle.geometry.specs.Conditions.{rangesHold, limitHolds}
+use Rattle.engine.specs.Ladder.{rung, _▹_}
+use Rattle.engine.specs.Calls as calls
+use Rattle.trace_file.specs.Form.{Recorded, traceIn}
+use Rattle.lines.specs.Lines.{bare, lineBytes}
+use Rattle.replay.specs.Steps.{storeBytes, lent, stepsFrom, linesFrom}
+
+-- 'Anything else prints the one line `trace refused`'
+abbrev pub refusedLine : List ℕ
+refusedLine = 116 ∷ 114 ∷ 97 ∷ 99 ∷ 101 ∷ 32 ∷ 114 ∷ 101 ∷ 102 ∷ 117 ∷ 115 ∷ 101 ∷ 100 ∷ 10 ∷ []
+
+-- 1 or 2: what any call on memory of the right lengths answers to such settings
+unfoldable pub settingsNumber : Settings → ℕ
+settingsNumber S = rung (rangesHold S) 1 ▹ rung (limitHolds S) 2
+
+-- 'the settings, then the store's size': 'Settings refused print `0`, the number, `- - -`, and nothing more'; 'store at most 32,768 bytes'
+unfoldable pub played : Settings → List ℕ → List ℕ
+played S steps =
+    cond (eqb (settingsNumber S) 0)
+    (cond (leb (storeBytes S) 32768) (linesFrom 1 (stepsFrom S ((calls.setUp S (lent S)) .state) (S .w) steps)) refusedLine)
+    (lineBytes 0 (bare (settingsNumber S)))
+
+abbrev pub playedForm : Option Recorded → List ℕ
+playedForm none = refusedLine
+playedForm (some trace) = played (trace .settings) (trace .steps)
+
+-- what is printed for a file; 'the file's form is judged first'
+unfoldable pub replayed : List ℕ → List ℕ
+replayed text = playedForm (traceIn text)
+
+-- as much of it as a page holds: a page of 105 × (4,096 + 1) bytes holds what any file prints, and a shorter one is left alone
+unfoldable pub printedOn : ℕ → List ℕ → List ℕ
+printedOn room text = cond (leb 430185 room) (replayed text) []

@@ -1,0 +1,68 @@
+-- Document 01, 'Trace program': the steps of a trace, and their lines.
+-- Assumes nothing.
+use Prim.Native.Nat.{ℕ, suc, _+_, _*_}
+use mathlib.Core.Bool.{Bool, true, false, cond, _&&_}
+use mathlib.Core.List.{List, [], _∷_, _++_, map}
+use lib.Dec.{eqb}
+use lib.ListN.{replicate}
+use Rattle.geometry.specs.declared.Settings.{Settings}
+use Rattle.engine.specs.State.{State}
+use Rattle.history.specs.Run.{Call, read, write, tick, inspect, Event, step, events}
+use Rattle.lines.specs.declared.Line.{Line}
+use Rattle.lines.specs.Lines.{served, bare, lineBytes}
+
+-- 'A step is a row to read, or 65535 for a tick.' (w: length of the read buffer, whose bytes are not printed)
+abbrev pub callOf : ℕ → ℕ → Call
+callOf w x = cond (eqb x 65535) tick (read x (replicate w 0))
+
+-- '(N + Q) × W bytes'
+abbrev pub storeBytes : Settings → ℕ
+storeBytes S = (S .n + S .q) * S .w
+
+-- 'store .. all zero at start'; the rest is written by set-up
+abbrev pub lent : Settings → State
+lent S =
+    record {
+      store = replicate (storeBytes S) 0;
+      forward = replicate (S .n) 0;
+      reverse = replicate (S .q) 0;
+      rows = replicate (S .k) 0;
+      counts = replicate (S .k) 0;
+      control = record { head = 0; passed = 0; spill = 0; acts = 0 };
+    }
+
+-- 'on a tick or refusal'
+abbrev pub isAccess : Call → Bool
+isAccess (read r buffer) = true
+isAccess (write r column bytes) = true
+isAccess tick = false
+isAccess (inspect r) = false
+
+abbrev pub lineOf : Event → Line
+lineOf e =
+    cond (isAccess (e .call) && eqb (e .answer .number) 0)
+    (served (e .answer .place) (e .answer .moved))
+    (bare (e .answer .number))
+
+-- a step: the memory after it, and its line
+pub record Shown : Type 0 where
+  pub state : State
+  pub line : Line
+
+abbrev pub steppedOf : State → Line → Shown
+steppedOf σ line = record { state = σ; line = line }
+
+abbrev pub answered : Settings → State → Call → Shown
+answered S σ c = steppedOf ((step S σ c) .state) (lineOf (record { call = c; answer = (step S σ c) .answer }))
+
+unfoldable pub stepped : Settings → State → ℕ → ℕ → Shown
+stepped S σ w x = answered S σ (callOf w x)
+
+-- the steps after set-up, with their answers: the history of which `history`'s theorems speak
+unfoldable pub stepsFrom : Settings → State → ℕ → List ℕ → List Event
+stepsFrom S σ w steps = events S σ (map (callOf w) steps)
+
+-- a line for each, 'step from 1'
+unfoldable pub linesFrom : ℕ → List Event → List ℕ
+linesFrom i [] = []
+linesFrom i (e ∷ es) = lineBytes i (lineOf e) ++ linesFrom (suc i) es

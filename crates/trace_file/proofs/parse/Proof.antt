@@ -1,0 +1,80 @@
+-- `trace_file::parse` meets its contract: what was read tells the trace, and the list is long enough for every trace.
+-- Assumes nothing.
+use native.Mathlib.Omega.{arith}
+use mathlib.Core.Path.{sym, ap, _∙_}
+use lib.ListN.{length, take}
+use Rattle.trace_file.specs.declared.Numbers.{Numbers}
+use Rattle.trace_file.specs.Numbers.{listed}
+use Rattle.trace_file.proofs.Sections.{no-room, too-long, none-read, some-read}
+use borrow.Author.Needs.{needs}
+use Rattle.trace_file.proofs.parse.Statement.{statement}
+use Rattle.trace_file.proofs.parse.Tie as tie
+
+returns : tie.Need-returns
+returns c =
+    let a = c .before .before .before .args in
+    (sym (no-room (a .text .now) (length (a .numbers .now)) (c .if1 .taken)), omega arith)
+
+returns-2 : tie.Need-returns-2
+returns-2 c =
+    let a = c .before .before .before .before .args in
+    (sym (too-long (a .text .now) (length (a .numbers .now)) (c .before .if1 .left) (c .if2 .taken)), omega arith)
+
+read-numbers-requires : tie.Need-read-numbers-requires
+read-numbers-requires c κs = search needs
+
+enum-told : tie.Need-enum-told
+enum-told c = search needs
+
+enum-known-found : tie.Need-enum-known-found
+enum-known-found c = search needs
+
+sections-of-requires : tie.Need-sections-of-requires
+sections-of-requires c κs =
+    let read = c .before .before .before .before .before .before .read-numbers in
+    let within = rw (c .before .before .found .given .1) at (read .ensures .1) in
+    omega (arith, within, read .kept .1 .0)
+
+same-length : tie.Need-same-length
+same-length c = search needs
+
+returns-3 : tie.Need-returns-3
+returns-3 c =
+    let t = c .before .before .before .before in
+    let a = t .before .before .before .before .before .before .args in
+    let told = ap (λ (r : Numbers). listed r (t .read-numbers .last .1 .0)) (c .enum-told .given .1) in
+    (
+      sym (none-read (a .text .now) (length (a .numbers .now)) (t .before .before .before .if1 .left) (t .before .before .if2 .left) (sym told ∙ t .read-numbers .ensures .0)),
+      omega arith,
+    )
+
+same-length-2 : tie.Need-same-length-2
+same-length-2 c = search needs
+
+returns-4 : tie.Need-returns-4
+returns-4 c =
+    let t = c .before .before .before .before .before .before .before in
+    let a = t .before .before .before .before .before .before .args in
+    let count = c .before .before .before .found .given in
+    let told = ap (λ (r : Numbers). listed r (t .read-numbers .last .1 .0)) (count .1) in
+    (
+      c .sections-of .ensures .0
+      ∙ sym (some-read (a .text .now) (length (a .numbers .now)) (t .before .before .before .if1 .left) (t .before .before .if2 .left)
+      (take (count .0 .0) (t .read-numbers .last .1 .0)) (sym told ∙ t .read-numbers .ensures .0)),
+      c .sections-of .ensures .1,
+    )
+
+pub parse-spec : {M : Type 1} → statement M
+parse-spec =
+    tie.close
+    (tie.spec
+    returns
+    returns-2
+    read-numbers-requires
+    enum-told
+    enum-known-found
+    sections-of-requires
+    same-length
+    returns-3
+    same-length-2
+    returns-4)
