@@ -1,3 +1,4 @@
 pub mod Numbering
 pub mod Entry
 pub mod Conditions
+pub mod Lists

@@ -1,5 +1,3 @@
-pub mod Session
-pub mod Tightness
 pub mod Openings
 pub mod Tallied
 pub mod Invariant

@@ -75,5 +75,5 @@ decimal-short zero n = le-refl 0
 decimal-short (suc places) n =
     let higher = cond (eqb (n / 10) 0) [] (decimalWithin places (n / 10)) in
     let h : length higher ≤ places =
-        elim (split (eqb (n / 10) 0)) [ inl e ↦ rw e (omega arith) | inr e ↦ rw e (decimal-short places (n / 10)) ] in
+    elim (split (eqb (n / 10) 0)) [ inl e ↦ rw e (omega arith) | inr e ↦ rw e (decimal-short places (n / 10)) ] in
     omega (arith, h, length-append higher ((48 + n % 10) ∷ []))

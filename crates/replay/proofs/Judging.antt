@@ -31,7 +31,7 @@ module _ (S : Settings) where
 
   pub ranges-accepted : settingsNumber S ≡ 0 → rangesHold S ≡ true
   ranges-accepted h = go (rangesHold S) refl
-      where
+    where
       go : (b : Bool) → rangesHold S ≡ b → rangesHold S ≡ true
       go true e = e
       go false e = absurd (suc-ne-zero 0 (number-1 e ∙ h))

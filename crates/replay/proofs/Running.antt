@@ -40,12 +40,12 @@ module _ (S : Settings) (w : ℕ) where
         within = h;
         room = omega (arith, short, r .room);
         whole =
-          r .whole
-          ∙ (ap (λ (xs : List ℕ). take at page ++ linesFrom (suc i) (stepsFrom S σ w xs)) (drop-cons steps i 0 h)
-          ∙ (ap (λ (ys : List ℕ). take at page ++ ys) (lines-cons σ (getD steps i 0) (suc i) (drop (suc i) steps))
-          ∙ (ap (λ (s : Shown). take at page ++ (lineBytes (suc i) (s .line) ++ linesFrom (suc (suc i)) (stepsFrom S (s .state) w (drop (suc i) steps)))) (sym e)
-          ∙ (sym (append-assoc (take at page) (lineBytes (suc i) line) (linesFrom (suc (suc i)) (stepsFrom S after w (drop (suc i) steps))))
-          ∙ ap (λ (ys : List ℕ). ys ++ linesFrom (suc (suc i)) (stepsFrom S after w (drop (suc i) steps))) (sym (p .printed))))));
+            r .whole
+            ∙ (ap (λ (xs : List ℕ). take at page ++ linesFrom (suc i) (stepsFrom S σ w xs)) (drop-cons steps i 0 h)
+            ∙ (ap (λ (ys : List ℕ). take at page ++ ys) (lines-cons σ (getD steps i 0) (suc i) (drop (suc i) steps))
+            ∙ (ap (λ (s : Shown). take at page ++ (lineBytes (suc i) (s .line) ++ linesFrom (suc (suc i)) (stepsFrom S (s .state) w (drop (suc i) steps)))) (sym e)
+            ∙ (sym (append-assoc (take at page) (lineBytes (suc i) line) (linesFrom (suc (suc i)) (stepsFrom S after w (drop (suc i) steps))))
+            ∙ ap (λ (ys : List ℕ). ys ++ linesFrom (suc (suc i)) (stepsFrom S after w (drop (suc i) steps))) (sym (p .printed))))));
       }
 
   pub running-more : {start σ after : State} {steps page next : List ℕ} {at end i : ℕ} {line : Line} → i < length steps

@@ -30,7 +30,7 @@ shown a = steppedOf (a .state) (lineOfAccess (a .answer))
 -- the line by the answer's numbers is the line by its case, because a refusal's number is not 0
 line-agrees : (number : ℕ) (p : PhysicalRow) (m : Move) (b : Bool) → eqb number 0 ≡ b
     → let a = cond b (Done p m) (Refused number) in
-      lineOfAccess a ≡ cond (eqb (numberOf a) 0) (served (placeOf a) (moveOf a)) (bare (numberOf a))
+    lineOfAccess a ≡ cond (eqb (numberOf a) 0) (served (placeOf a) (moveOf a)) (bare (numberOf a))
 line-agrees number p m true e = refl
 line-agrees number p m false e = rw e refl
 

@@ -10,12 +10,13 @@ use Rattle.geometry.specs.Conditions.{rangesHold, limitHolds}
 use Rattle.engine.specs.Ladder.{rung, _▹_}
 use Rattle.engine.specs.Calls as calls
 use Rattle.trace_file.specs.Form.{Recorded, traceIn}
+use Rattle.page.specs.Ascii.{ascii}
 use Rattle.lines.specs.Lines.{bare, lineBytes}
 use Rattle.replay.specs.Steps.{storeBytes, lent, stepsFrom, linesFrom}
 
 -- 'Anything else prints the one line `trace refused`'
 abbrev pub refusedLine : List ℕ
-refusedLine = 116 ∷ 114 ∷ 97 ∷ 99 ∷ 101 ∷ 32 ∷ 114 ∷ 101 ∷ 102 ∷ 117 ∷ 115 ∷ 101 ∷ 100 ∷ 10 ∷ []
+refusedLine = ascii "trace refused\n"
 
 -- 1 or 2: what any call on memory of the right lengths answers to such settings
 unfoldable pub settingsNumber : Settings → ℕ

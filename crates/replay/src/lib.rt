@@ -117,7 +117,18 @@ fn start(
 {
     let new = calls::set_up(BLANK, s, store, forward, reverse, rows, counts);
     let control = new.control;
-    run(control, s, steps, buffer, store, forward, reverse, rows, counts, page)
+    run(
+        control,
+        s,
+        steps,
+        buffer,
+        store,
+        forward,
+        reverse,
+        rows,
+        counts,
+        page,
+    )
 }
 
 // Zeros for a store, a row, and each table, as long as the settings allow.

@@ -2,17 +2,17 @@
 -- Assumes nothing.
 use Prim.Native.Nat.{ℕ, _<_}
 use mathlib.Core.Path.{_≡_}
-use mathlib.Core.Bool.{cond}
+use mathlib.Core.Bool.{Bool, false, cond}
 use mathlib.Core.List.{List, [], _∷_}
-use lib.Dec.{ltb}
+use lib.Dec.{ltb, eqb}
 use lib.ListN.{length, getD}
 use Rattle.sizing.specs.declared.SizeTimes.{SizeTimes}
-use Rattle.sizing.specs.declared.RefreshTimes.{RefreshTimes}
-use Rattle.sizing.specs.declared.Figure.the-variants.{Value}
+use Rattle.sizing.specs.declared.Figure.{Figure}
+use Rattle.sizing.specs.declared.Figure.the-variants.{Refused, Value}
 use Rattle.sizing.specs.declared.SizePair.{SizePair}
 use Rattle.sizing.specs.declared.Listed.{Listed}
 use Rattle.sizing.specs.declared.Listed.the-variants.{Pair, PastEnd}
-use Rattle.sizing.specs.Sums.{leastSize, mostActivations}
+use Rattle.sizing.specs.Sums.{leastSize}
 
 abbrev pub pair : ℕ → ℕ → SizePair
 pair a s = record { threshold = a; size = s }
@@ -32,10 +32,15 @@ listedAt i = cond (ltb i (length sizes)) (Pair (pairAt i)) PastEnd
 abbrev pub tableTimes : ℕ → SizeTimes
 tableTimes a = record { trefw = 64000000; trc = 45; tmov = 1370; banks = 16; threshold = a }
 
+-- a sum gives that value
+abbrev pub gives : Figure → ℕ → Bool
+gives Refused v = false
+gives (Value x) v = eqb x v
+
+-- the size of a pair is the sum for its threshold
+abbrev pub agrees : SizePair → Bool
+agrees p = gives (leastSize (tableTimes (p .threshold))) (p .size)
+
 -- 'proved to agree with the first sum': at each index the size listed is the sum for the threshold listed
 abbrev pub TableAgrees : Type 0
 TableAgrees = (i : ℕ) → i < length sizes → leastSize (tableTimes (pairAt i .threshold)) ≡ Value (pairAt i .size)
-
--- 'With tREFI 7,800 and tRFC 350 the second sum is 1358404'
-abbrev pub ActivationsAgree : Type 0
-ActivationsAgree = mostActivations (record { trefw = 64000000; trc = 45; trefi = 7800; trfc = 350 }) ≡ Value 1358404

@@ -14,7 +14,8 @@ use lib.Seq.{drop-cons, take-suc-set, append-snoc}
 use borrow.Author.Tests.{le-leb, lt-leb}
 use Rattle.geometry.proofs.Cases.{split}
 use Rattle.trace_file.specs.declared.scanner.Scan.{Scan}
-use Rattle.trace_file.specs.Numbers.{isDigit, isGap, appended, ended, numbersFrom, every, readableFrom, numbersWithin}
+use Rattle.geometry.specs.Lists.{every}
+use Rattle.trace_file.specs.Numbers.{isDigit, isGap, appended, ended, numbersFrom, readableFrom, numbersWithin}
 use Rattle.trace_file.specs.Scanner.{pending, outcome, Past}
 
 -- once a value is above the limit, some number of the text is, whatever follows

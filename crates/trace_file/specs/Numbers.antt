@@ -1,12 +1,13 @@
 -- Document 01, 'Trace program': the decimal numbers of a text. A text is a list of bytes.
 -- Assumes nothing.
 use Prim.Native.Nat.{ℕ, _+_, _-_, _*_}
-use mathlib.Core.Bool.{Bool, true, cond, _&&_, _||_}
+use mathlib.Core.Bool.{Bool, cond, _&&_, _||_}
 use mathlib.Core.List.{List, [], _∷_, _++_}
 use mathlib.Core.Option.{Option, none, some}
 use lib.Dec.{eqb, leb}
 use lib.ListN.{length, take}
 use Rattle.geometry.specs.Conditions.{inRange}
+use Rattle.geometry.specs.Lists.{every}
 use Rattle.trace_file.specs.declared.Numbers.{Numbers}
 use Rattle.trace_file.specs.declared.Numbers.the-variants.{Unreadable, Count}
 
@@ -37,11 +38,6 @@ numbersFrom before (b ∷ bs) = cond (isDigit b) (numbersFrom (some (appended be
 -- the numbers of a whole text
 abbrev pub numbers : List ℕ → List ℕ
 numbers text = numbersFrom none text
-
--- the test holds of each element
-unfoldable pub every : (ℕ → Bool) → List ℕ → Bool
-every test [] = true
-every test (x ∷ xs) = test x && every test xs
 
 -- digits, blanks and newlines alone, and 'no number above 4,294,967,295'; before: as in numbersFrom
 unfoldable pub readableFrom : Option ℕ → List ℕ → Bool

@@ -39,12 +39,11 @@ returns c =
     let third = fourth .before .before .before .before in
     let second = third .before .before .before .before in
     let first = second .before .before .before .before in
-    let start = first .before .before .before .before .before in
-    (
+    let start = first .before .before .before .before .before in (
       search needs,
       put-put
-      (put-put (put-put (put-put (put-put (start .put-decimal .ensures .1) (first .put-field .ensures .1)) (second .put-field2 .ensures .1)) (third .put-field3 .ensures .1)) (fourth .put-field4 .ensures .1))
-      (c .before .before .put-bytes .ensures),
+          (put-put (put-put (put-put (put-put (start .put-decimal .ensures .1) (first .put-field .ensures .1)) (second .put-field2 .ensures .1)) (third .put-field3 .ensures .1)) (fourth .put-field4 .ensures .1))
+          (c .before .before .put-bytes .ensures),
     )
 
 pub put-line-spec : {M : Type 1} → statement M

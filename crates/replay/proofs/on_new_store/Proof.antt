@@ -113,17 +113,16 @@ returns c =
     let buffer = store .before in
     let top = buffer .before .before .before in
     let a = top .args in
-    let f = ranges-facts (a .s) (top .pre .0) in
-    (
+    let f = ranges-facts (a .s) (top .pre .0) in (
       t .start .ensures .0,
       t .start .ensures .1
-      ∙ new-lines (a .s) (a .steps .now)
-      (part-blank (store .store-buffer .ensures) (a .size) (top .pre .2) ∙ ap (λ (n : ℕ). replicate n 0) (top .pre .1))
-      (part-blank (forward .forward-buffer .ensures) (a .s .n) (f .n-high))
-      (part-blank (reverse .reverse-buffer .ensures) (a .s .q) (f .q-high))
-      (part-blank (rows .rows-buffer .ensures) (a .s .k) (f .k-high))
-      (part-blank (counts .counts-buffer .ensures) (a .s .k) (f .k-high))
-      (sym (part-long (buffer .row-buffer .ensures) (a .s .w) (f .w-high))),
+          ∙ new-lines (a .s) (a .steps .now)
+          (part-blank (store .store-buffer .ensures) (a .size) (top .pre .2) ∙ ap (λ (n : ℕ). replicate n 0) (top .pre .1))
+          (part-blank (forward .forward-buffer .ensures) (a .s .n) (f .n-high))
+          (part-blank (reverse .reverse-buffer .ensures) (a .s .q) (f .q-high))
+          (part-blank (rows .rows-buffer .ensures) (a .s .k) (f .k-high))
+          (part-blank (counts .counts-buffer .ensures) (a .s .k) (f .k-high))
+          (sym (part-long (buffer .row-buffer .ensures) (a .s .w) (f .w-high))),
     )
 
 pub on-new-store-spec : {M : Type 1} → statement M

@@ -27,12 +27,11 @@ returns : tie.Need-returns
 returns c =
     let t = c .before .before in
     let n = t .before .before .before .before in
-    let a = n .before .before .before .args in
-    (
+    let a = n .before .before .before .args in (
       omega (arith, t .put-line .ensures .0, n .before .before .before .pre),
       t .put-line .ensures .1 .printed
-      ∙ (ap (λ (l : Line). lineBytes 0 l) (t .before .bare .ensures)
-      ∙ settings-refused (a .s) (a .steps .now) _ (n .settings-number .ensures) (t .before .before .before .if1 .taken)),
+          ∙ (ap (λ (l : Line). lineBytes 0 l) (t .before .bare .ensures)
+          ∙ settings-refused (a .s) (a .steps .now) _ (n .settings-number .ensures) (t .before .before .before .if1 .taken)),
     )
 
 cast-size : tie.Need-cast-size
@@ -64,18 +63,16 @@ returns-2 : tie.Need-returns-2
 returns-2 c =
     let t = c .before .before in
     let n = t .before .before .before .before .before .before .before in
-    let a = n .before .before .before .args in
-    (
+    let a = n .before .before .before .args in (
       t .put-refused .ensures .0,
       t .put-refused .ensures .1
-      ∙ store-refused (a .s) (a .steps .now) (sym (n .settings-number .ensures) ∙ t .before .before .before .before .before .before .if1 .left) (t .before .before .if2 .taken),
+          ∙ store-refused (a .s) (a .steps .now) (sym (n .settings-number .ensures) ∙ t .before .before .before .before .before .before .if1 .left) (t .before .before .if2 .taken),
     )
 
 on-new-store-requires : tie.Need-on-new-store-requires
 on-new-store-requires c κs =
     let n = c .before .before .before .before .before .before in
-    let a = n .before .before .before .args in
-    (
+    let a = n .before .before .before .args in (
       ranges-accepted (a .s) (sym (n .settings-number .ensures) ∙ c .before .before .before .before .before .if1 .left),
       refl,
       c .before .if2 .left,
@@ -89,11 +86,10 @@ returns-3 : tie.Need-returns-3
 returns-3 c =
     let t = c .before .before in
     let n = t .before .before .before .before .before .before .before in
-    let a = n .before .before .before .args in
-    (
+    let a = n .before .before .before .args in (
       t .on-new-store .ensures .0,
       t .on-new-store .ensures .1
-      ∙ all-run (a .s) (a .steps .now) (sym (n .settings-number .ensures) ∙ t .before .before .before .before .before .before .if1 .left) (t .before .before .if2 .left),
+          ∙ all-run (a .s) (a .steps .now) (sym (n .settings-number .ensures) ∙ t .before .before .before .before .before .before .if1 .left) (t .before .before .if2 .left),
     )
 
 pub play-spec : {M : Type 1} → statement M

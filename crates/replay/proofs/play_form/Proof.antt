@@ -48,8 +48,7 @@ same-length c = search needs
 returns : tie.Need-returns
 returns c =
     let t = c .before .before in
-    let a = t .before .before .before .before .before .before .args in
-    (
+    let a = t .before .before .before .before .before .before .args in (
       t .put-refused .ensures .0,
       t .put-refused .ensures .1 ∙ ap (λ (f : Form). playedForm (recorded f (a .numbers .now))) (sym (t .before .before .enum-told .given .1)),
     )
@@ -63,12 +62,11 @@ returns-2 c =
     let a = t .before .before .before .before .before .before .before .before .args in
     let form = t .before .before .before .before .form .given in
     let count = form .0 .1 .0 in
-    let e : 8 + count - 8 ≡ count = omega arith in
-    (
+    let e : 8 + count - 8 ≡ count = omega arith in (
       t .play .ensures .0,
       t .play .ensures .1
-      ∙ (ap (λ (n : ℕ). played (form .0 .0) (take n (drop 8 (a .numbers .now)))) e
-      ∙ ap (λ (f : Form). playedForm (recorded f (a .numbers .now))) (sym (form .1))),
+          ∙ (ap (λ (n : ℕ). played (form .0 .0) (take n (drop 8 (a .numbers .now)))) e
+          ∙ ap (λ (f : Form). playedForm (recorded f (a .numbers .now))) (sym (form .1))),
     )
 
 pub play-form-spec : {M : Type 1} → statement M

@@ -37,12 +37,11 @@ returns-2 : tie.Need-returns-2
 returns-2 c =
     let t = c .before .before in
     let form = t .before .before .before .before in
-    let a = form .before .before .before .before .before .before .args in
-    (
+    let a = form .before .before .before .before .before .before .args in (
       omega (arith, t .play-form .ensures .0, t .play-form .kept .1 .1 .0),
       t .play-form .ensures .1
-      ∙ (ap (λ (o : Option Recorded). playedForm o) (form .parse .ensures .0)
-      ∙ page-long (a .text .now) (length (a .page .now)) _ (form .before .before .before .if1 .left) (omega (arith, form .before .before .number-buffer .ensures))),
+          ∙ (ap (λ (o : Option Recorded). playedForm o) (form .parse .ensures .0)
+          ∙ page-long (a .text .now) (length (a .page .now)) _ (form .before .before .before .if1 .left) (omega (arith, form .before .before .number-buffer .ensures))),
     )
 
 pub replay-spec : {M : Type 1} → statement M

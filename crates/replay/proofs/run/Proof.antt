@@ -54,11 +54,10 @@ loop-again c =
     let t = p .before .before .before .before .before .before .before .before .before .before .before .before .before .before .before .before in
     let l = t .before .before .before .before .before .before .before .before .before .loop in
     let a = c .before .before .before .before .before .before .before .before .before .before .before .before .before .before .before .before .before .before .before .before .before .before .before .before .before .before .before .before .before .before .before .before .before .before .before .before .args in
-    let k = t .step .kept .1 .1 .1 in
-    (
+    let k = t .step .kept .1 .1 .1 in (
       running-more (a .s) (length (a .buffer .now)) (t .before .before .before .before .before .before .before .before .loop-test .taken)
-      (t .step .ensures ∙ ap (λ (w : ℕ). stepped (a .s) (stateOf (l .store) (l .forward) (l .reverse) (l .rows) (l .counts) (l .last)) w (getD (a .steps .now) (l .i) 0)) (l .inv .1))
-      (p .put-line .ensures .1) (p .put-line .ensures .0) (l .inv .0),
+          (t .step .ensures ∙ ap (λ (w : ℕ). stepped (a .s) (stateOf (l .store) (l .forward) (l .reverse) (l .rows) (l .counts) (l .last)) w (getD (a .steps .now) (l .i) 0)) (l .inv .1))
+          (p .put-line .ensures .1) (p .put-line .ensures .0) (l .inv .0),
       k .0 ∙ l .inv .1,
       k .1 .0 ∙ l .inv .2,
       k .1 .1 .0 ∙ l .inv .3,

@@ -37,11 +37,10 @@ same-length-7 c = search needs
 returns : tie.Need-returns
 returns c =
     let t = c .before .before .before .before .before .before .before .before .before .before .before .before .before .before in
-    let a = c .before .before .before .before .before .before .before .before .before .before .before .before .before .before .before .before .before .before .before .before .before .before .before .before .before .before .before .before .before .before .before .before .before .before .before .before .before .before .before .before .before .before .before .before .before .args in
-    (
+    let a = c .before .before .before .before .before .before .before .before .before .before .before .before .before .before .before .before .before .before .before .before .before .before .before .before .before .before .before .before .before .before .before .before .before .before .before .before .before .before .before .before .before .before .before .before .before .args in (
       t .run .ensures .0,
       t .run .ensures .1
-      ∙ ap (λ (n : Noted). linesFrom 1 (stepsFrom (a .s) (n .state) (length (a .buffer .now)) (a .steps .now))) (t .before .before .before .before .before .before .before .before .before .before .before .before .before .before .before .before .before .set-up .ensures),
+          ∙ ap (λ (n : Noted). linesFrom 1 (stepsFrom (a .s) (n .state) (length (a .buffer .now)) (a .steps .now))) (t .before .before .before .before .before .before .before .before .before .before .before .before .before .before .before .before .before .set-up .ensures),
     )
 
 pub start-spec : {M : Type 1} → statement M

@@ -42,8 +42,7 @@ returns-3 : tie.Need-returns-3
 returns-3 c =
     let t = c .before .before .before .before in
     let a = t .before .before .before .before .before .before .args in
-    let told = ap (λ (r : Numbers). listed r (t .read-numbers .last .1 .0)) (c .enum-told .given .1) in
-    (
+    let told = ap (λ (r : Numbers). listed r (t .read-numbers .last .1 .0)) (c .enum-told .given .1) in (
       sym (none-read (a .text .now) (length (a .numbers .now)) (t .before .before .before .if1 .left) (t .before .before .if2 .left) (sym told ∙ t .read-numbers .ensures .0)),
       omega arith,
     )
@@ -56,11 +55,10 @@ returns-4 c =
     let t = c .before .before .before .before .before .before .before in
     let a = t .before .before .before .before .before .before .args in
     let count = c .before .before .before .found .given in
-    let told = ap (λ (r : Numbers). listed r (t .read-numbers .last .1 .0)) (count .1) in
-    (
+    let told = ap (λ (r : Numbers). listed r (t .read-numbers .last .1 .0)) (count .1) in (
       c .sections-of .ensures .0
-      ∙ sym (some-read (a .text .now) (length (a .numbers .now)) (t .before .before .before .if1 .left) (t .before .before .if2 .left)
-      (take (count .0 .0) (t .read-numbers .last .1 .0)) (sym told ∙ t .read-numbers .ensures .0)),
+          ∙ sym (some-read (a .text .now) (length (a .numbers .now)) (t .before .before .before .if1 .left) (t .before .before .if2 .left)
+          (take (count .0 .0) (t .read-numbers .last .1 .0)) (sym told ∙ t .read-numbers .ensures .0)),
       c .sections-of .ensures .1,
     )
 

@@ -53,8 +53,7 @@ returns-3 : tie.Need-returns-3
 returns-3 c =
     let start = c .before .before .before .before .before .before .before .before .before .before in
     let a = start .args in
-    let e = not-false (formed (a .numbers .now) (a .count)) (c .before .before .before .before .before .before .if2 .left) in
-    (
+    let e = not-false (formed (a .numbers .now) (a .count)) (c .before .before .before .before .before .before .if2 .left) in (
       sym (well-formed (a .numbers .now) (a .count) (start .pre) (c .before .before .before .before .before .before .before .before .before .if1 .left) e),
       formed-within (a .numbers .now) (a .count) e,
     )

@@ -7,8 +7,9 @@ use mathlib.Core.List.{List, [], _∷_, _++_, map}
 use lib.ListN.{replicate}
 use Rattle.geometry.specs.declared.Settings.{Settings}
 use Rattle.geometry.specs.Numbering.{homeRow, slotRow}
 use Rattle.history.specs.Tally.{start, hit, Stretch, openingsIn, quarantinesIn, epochs}
-use Rattle.history.proofs.Session.{settings, setUpAnswers, traced}
+use Rattle.computed.specs.Cases.{settingsOf}
+use Rattle.computed.proofs.Traced.{setUpAnswers, traced}
 
 -- the values of A
 abbrev pub thresholds : List ℕ
@@ -25,7 +26,7 @@ epochsOf S steps = epochs S start start (traced S steps)
 -- ---- a home row is opened A + 2 times: it gets its row back, is read A times, and is copied away
 
 abbrev pub homeSettings : ℕ → Settings
-homeSettings a = settings 2 2 1 2 a (3 * a - 1)
+homeSettings a = settingsOf 2 2 1 2 a (3 * a - 1)
 
 -- rows 1 and 0 go to slots 0 and 1; in the next epoch row 0 goes to slot 0, so that row 1 is sent home, and then row 1 to slot 1
 abbrev pub homeSteps : ℕ → List ℕ
@@ -41,7 +42,7 @@ home-reached = refl
 -- ---- a slot is opened 2A + 3 times: it is read A times and copied away, gets another row, is read A times and copied away
 
 abbrev pub slotSettings : ℕ → Settings
-slotSettings a = settings 2 3 1 3 a (4 * a - 1)
+slotSettings a = settingsOf 2 3 1 3 a (4 * a - 1)
 
 -- rows 0 and 1 go to slots 0 and 1; in the next epoch row 0 goes to slot 2, row 1 to slot 0, and row 1 to slot 1
 abbrev pub slotSteps : ℕ → List ℕ
@@ -59,7 +60,7 @@ slot-reached = refl
 abbrev pub shortSettings : ℕ → Settings
 shortSettings a =
     let l : ℕ = 3 * a - 1 in
-    settings 3 (2 * (l / a) - 1) 1 2 a l
+    settingsOf 3 (2 * (l / a) - 1) 1 2 a l
 
 -- rows 0, 1 and 2 go to slots 0, 1 and 2; in the last epoch row 0 sits in slot `head` and goes to slot 1, `passed` being 2 then,
 -- and row 2 too sits in slot `head`

@@ -1,0 +1,17 @@
+-- The [p] table holds, by one test that antt computes. Assumes nothing.
+use mathlib.Core.Path.{refl}
+use Rattle.geometry.specs.Lists.{every}
+use Rattle.sizing.specs.Sums.{leastSize, mostActivations, sizeRangesHold, activationRangesHold}
+use Rattle.trace_file.specs.Numbers.{numbersFrom, readableFrom}
+use Rattle.trace_file.specs.Form.{hasSections, traceIn}
+use Rattle.page.specs.Decimal.{decimalWithin}
+use Rattle.lines.specs.Lines.{lineBytes}
+use Rattle.replay.specs.Steps.{linesFrom}
+use Rattle.replay.specs.Replay.{settingsNumber, played, replayed}
+use Rattle.computed.specs.Cases.{holds, AllHold}
+use Rattle.computed.proofs.Traced.{traced}
+
+pub all-hold : AllHold
+unfolding holds leastSize mostActivations sizeRangesHold activationRangesHold
+    replayed traceIn readableFrom every numbersFrom hasSections played settingsNumber linesFrom lineBytes decimalWithin traced
+all-hold = refl

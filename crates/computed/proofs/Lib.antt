@@ -1,0 +1,3 @@
+pub mod Traced
+pub mod Cases
+pub mod Tightness

@@ -1,0 +1,94 @@
+-- Document 01: every case marked [p], in one table over the definitions.
+-- Assumes nothing.
+use Prim.Native.Nat.{ℕ}
+use Prim.Native.String.{String}
+use mathlib.Core.Path.{_≡_}
+use mathlib.Core.Bool.{Bool, true, false, _&&_}
+use mathlib.Core.List.{List, [], _∷_, _++_, map}
+use lib.Dec.{eqb}
+use Rattle.geometry.specs.declared.Settings.{Settings}
+use Rattle.geometry.specs.Lists.{every}
+use Rattle.sizing.specs.declared.RefreshTimes.{RefreshTimes}
+use Rattle.sizing.specs.declared.SizePair.{SizePair}
+use Rattle.sizing.specs.Sums.{mostActivations}
+use Rattle.sizing.specs.Table.{sizes, gives, agrees}
+use Rattle.engine.specs.Calls.{setUp}
+use Rattle.page.specs.Ascii.{ascii}
+use Rattle.replay.specs.Steps.{lent}
+use Rattle.replay.specs.Replay.{replayed}
+
+pub data Case : Type 0 where
+  -- a threshold and its size, by the first sum
+  size : SizePair → Case
+  -- the second sum
+  activations : RefreshTimes → ℕ → Case
+  -- a trace file and the lines that are printed for it
+  trace : String → List String → Case
+  -- settings and what set-up answers, on memory of the right lengths
+  settings : Settings → ℕ → Case
+
+-- the same bytes
+abbrev pub same : List ℕ → List ℕ → Bool
+same [] [] = true
+same [] (y ∷ ys) = false
+same (x ∷ xs) [] = false
+same (x ∷ xs) (y ∷ ys) = eqb x y && same xs ys
+
+-- each line with its newline
+abbrev pub lines : List String → List ℕ
+lines [] = []
+lines (l ∷ ls) = ascii l ++ (10 ∷ lines ls)
+
+unfoldable pub holds : Case → Bool
+holds (size pair) = agrees pair
+holds (activations times figure) = gives (mostActivations times) figure
+holds (trace text printed) = same (replayed (ascii text)) (lines printed)
+holds (settings S number) = eqb ((setUp S (lent S)) .number) number
+
+-- settings in a trace's order
+abbrev pub settingsOf : ℕ → ℕ → ℕ → ℕ → ℕ → ℕ → Settings
+settingsOf n q w k a l = record { n = n; q = q; w = w; k = k; a = a; l = l }
+
+-- 'Input .. [p] prints:'
+abbrev pub session : Case
+session =
+    trace "6 4 2 1 2 2 5 17 1 1 1 1 1 1 65535 1 1 2 2 3 65535 3 3 2 2" (
+    "1 0 1 - -"
+    ∷ "2 0 1 0 -"
+    ∷ "3 0 4 - -"
+    ∷ "4 0 4 1 -"
+    ∷ "5 0 5 - -"
+    ∷ "6 8 - - -"
+    ∷ "7 0 - - -"
+    ∷ "8 0 5 - -"
+    ∷ "9 0 5 0 -"
+    ∷ "10 0 2 - -"
+    ∷ "11 0 2 1 -"
+    ∷ "12 0 3 - -"
+    ∷ "13 0 - - -"
+    ∷ "14 0 3 - -"
+    ∷ "15 0 3 0 1"
+    ∷ "16 0 5 - -"
+    ∷ "17 9 - - -"
+    ∷ []
+    )
+
+abbrev pub table : List Case
+table =
+    -- 'a table of six pairs .., proved to agree with the first sum [p]'
+    map size sizes
+    ++ (
+    -- 'With tREFI 7,800 and tRFC 350 the second sum is 1358404 [p]'
+    activations (record { trefw = 64000000; trc = 45; trefi = 7800; trfc = 350 }) 1358404
+    ∷ session
+    -- 'with A = 2, K = 2, L = 5 is taken and L = 6 is refused 2 [p]'
+    ∷ settings (settingsOf 4 2 1 2 2 5) 0
+    ∷ settings (settingsOf 4 2 1 2 2 6) 2
+    -- 'Q = 2 is taken, Q = 1 refused 1 [p]'
+    ∷ settings (settingsOf 4 2 1 2 2 5) 0
+    ∷ settings (settingsOf 4 1 1 2 2 5) 1
+    ∷ []
+    )
+
+abbrev pub AllHold : Type 0
+AllHold = every holds table ≡ true
