@@ -1,10 +1,10 @@
 //! Lent memory that no history can leave: contents near sound ones, wrong lengths, settings out of range, absurd rows,
 //! columns and lengths. The library must answer as the model does, and a refusal must change nothing.
 
-use crate::fault::Fault;
-use crate::memory::{Call, Control, Memory, Settings};
 use crate::pair::{Counts, Pair};
-use crate::rng::Rng;
+use model::fault::Fault;
+use model::memory::{Call, Control, Memory, Settings};
+use model::rng::Rng;
 
 /// Small settings in range, so that the conditions often meet.
 fn small(rng: &mut Rng) -> Settings {
@@ -26,7 +26,7 @@ fn small(rng: &mut Rng) -> Settings {
 fn distort(rng: &mut Rng, s: &Settings) -> Settings {
     let mut out = *s;
     let edge = |rng: &mut Rng, low: u32, high: u32| {
-        let far = rng.next() as u32;
+        let far = rng.word() as u32;
         rng.pick(&[low.wrapping_sub(1), low, high, high + 1, 0, 65_535, 65_536, u32::MAX, u32::MAX - 1, far])
     };
     match rng.below(8) {
@@ -46,7 +46,7 @@ fn distort(rng: &mut Rng, s: &Settings) -> Settings {
 
 /// A number for a table entry, near the numbers that mean something.
 fn entry(rng: &mut Rng, s: &Settings) -> u16 {
-    let any = rng.next() as u32;
+    let any = rng.word() as u32;
     let near = rng.below(u64::from(s.n.max(s.q)) + 1) as u32;
     rng.pick(&[near, near, near, 65_535, 65_534, s.n, s.n.wrapping_sub(1), s.q, s.q.wrapping_sub(1), 0, any]) as u16
 }
@@ -88,7 +88,7 @@ fn spoil(rng: &mut Rng, s: &Settings, m: &mut Memory) {
         }
     }
     let Control { spill, acts, .. } = m.control;
-    let far = rng.next() as u32;
+    let far = rng.word() as u32;
     let value = entry(rng, s);
     match rng.below(11) {
         0 | 1 => put(rng, &mut m.forward, value),
@@ -119,7 +119,7 @@ fn noise(rng: &mut Rng, s: &Settings) -> Memory {
         table.iter_mut().for_each(|e| *e = entry(rng, s));
     }
     let small = rng.once_in(2);
-    let word = |rng: &mut Rng| if small { rng.below(4) as u32 } else { rng.next() as u32 };
+    let word = |rng: &mut Rng| if small { rng.below(4) as u32 } else { rng.word() as u32 };
     m.counts.iter_mut().for_each(|c| *c = word(rng));
     m.control = Control { head: word(rng), passed: word(rng), spill: word(rng), acts: word(rng) };
     m
@@ -140,7 +140,7 @@ fn resize(rng: &mut Rng, m: &mut Memory) {
 fn call(rng: &mut Rng, s: &Settings) -> Call {
     let w = (s.w as usize).min(8_193);
     let row = if rng.once_in(12) {
-        let far = rng.next() as u32;
+        let far = rng.word() as u32;
         rng.pick(&[s.n, s.n.wrapping_add(1), 60_000, 65_535, 65_536, u32::MAX, u32::MAX - 1, far])
     } else {
         rng.below(u64::from(s.n)) as u32

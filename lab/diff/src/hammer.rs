@@ -1,11 +1,11 @@
 //! Hammering streams judged by the outside tally: the bounds of demand 3 hold in every epoch, and are attained.
 
-use crate::fault::Fault;
-use crate::memory::{Answer, Call, Memory, Settings, NONE};
 use crate::pair::{Counts, Pair};
-use crate::rng::Rng;
 use crate::sound::Watcher;
 use crate::tally::{self, Figures};
+use model::fault::Fault;
+use model::memory::{Answer, Call, Memory, Settings, NONE};
+use model::rng::Rng;
 
 const TICK: u32 = 65_535;
 
@@ -58,10 +58,23 @@ fn settings(n: u32, q: u32, k: u32, a: u32, l: u32) -> Settings {
 pub fn printed_trace(counts: &mut Counts) -> Result<(), String> {
     let steps = [1, 1, 1, 1, 1, 1, TICK, 1, 1, 2, 2, 3, TICK, 3, 3, 2, 2];
     let printed = [
-        (0, 1, NONE, NONE), (0, 1, 0, NONE), (0, 4, NONE, NONE), (0, 4, 1, NONE), (0, 5, NONE, NONE),
-        (8, 0, NONE, NONE), (0, 0, NONE, NONE), (0, 5, NONE, NONE), (0, 5, 0, NONE), (0, 2, NONE, NONE),
-        (0, 2, 1, NONE), (0, 3, NONE, NONE), (0, 0, NONE, NONE), (0, 3, NONE, NONE), (0, 3, 0, 1),
-        (0, 5, NONE, NONE), (9, 0, NONE, NONE),
+        (0, 1, NONE, NONE),
+        (0, 1, 0, NONE),
+        (0, 4, NONE, NONE),
+        (0, 4, 1, NONE),
+        (0, 5, NONE, NONE),
+        (8, 0, NONE, NONE),
+        (0, 0, NONE, NONE),
+        (0, 5, NONE, NONE),
+        (0, 5, 0, NONE),
+        (0, 2, NONE, NONE),
+        (0, 2, 1, NONE),
+        (0, 3, NONE, NONE),
+        (0, 0, NONE, NONE),
+        (0, 3, NONE, NONE),
+        (0, 3, 0, 1),
+        (0, 5, NONE, NONE),
+        (9, 0, NONE, NONE),
     ];
     let mut stream = Stream::new(settings(4, 2, 2, 2, 5), counts)?;
     for (at, (step, line)) in steps.into_iter().zip(printed).enumerate() {

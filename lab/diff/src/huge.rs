@@ -2,8 +2,8 @@
 //! The pages of the one large allocation are never touched, so it costs address space only (at this alignment the
 //! allocator hands out fresh zero pages).
 
-use crate::ffi::{lend, Lent};
-use crate::memory::{Answer, Memory, Settings};
+use aqua::{lend, Lent};
+use model::memory::{Answer, Memory, Settings};
 use std::alloc::{alloc_zeroed, dealloc, Layout};
 
 const BEYOND: usize = 1 << 32;
@@ -55,5 +55,9 @@ pub fn refused() -> Result<Option<u64>, String> {
     if touched {
         wrong.push("a refusal changed what was lent".to_string());
     }
-    if wrong.is_empty() { Ok(Some(made)) } else { Err(wrong.join("\n")) }
+    if wrong.is_empty() {
+        Ok(Some(made))
+    } else {
+        Err(wrong.join("\n"))
+    }
 }

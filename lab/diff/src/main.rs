@@ -1,23 +1,18 @@
 //! Compares the library behind include/aqua.h with an engine written a second time from document 01. The first argument
 //! overrides the seed. Exit status 0 only if everything agrees and every planted fault is noticed.
 
-mod fault;
-mod ffi;
 mod garbage;
 mod hammer;
 mod huge;
-mod memory;
-mod model;
 mod pair;
-mod rng;
 mod sizing;
 mod sound;
 mod tally;
 
-use fault::{Fault, FAULTS};
-use memory::Settings;
+use model::fault::{Fault, FAULTS};
+use model::memory::Settings;
+use model::rng::Rng;
 use pair::Counts;
-use rng::Rng;
 use sound::Seen;
 use std::process::ExitCode;
 use std::time::Instant;
@@ -39,8 +34,14 @@ fn sound_histories(rng: &mut Rng, counts: &mut Counts) -> Result<(), String> {
     println!(
         "a. sound histories: {} calls in {} histories, {} epochs ended, {} quarantines, {} rows sent home, {} times \
          the row's own slot passed, {} accesses refused with 9 and accepted after a tick, store up to {} bytes",
-        counts.total(), seen.histories, seen.epochs, seen.quarantines, seen.sent_home, seen.own_slot_passed,
-        seen.retried_after_nine, seen.store_most,
+        counts.total(),
+        seen.histories,
+        seen.epochs,
+        seen.quarantines,
+        seen.sent_home,
+        seen.own_slot_passed,
+        seen.retried_after_nine,
+        seen.store_most,
     );
     Ok(())
 }
@@ -96,7 +97,11 @@ fn planted_faults(seed: u64) -> Result<(), String> {
             unnoticed.push(name);
         }
     }
-    if unnoticed.is_empty() { Ok(()) } else { Err(format!("planted faults unnoticed: {}", unnoticed.join(", "))) }
+    if unnoticed.is_empty() {
+        Ok(())
+    } else {
+        Err(format!("planted faults unnoticed: {}", unnoticed.join(", ")))
+    }
 }
 
 fn run(seed: u64) -> Result<(), String> {

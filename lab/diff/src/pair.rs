@@ -1,14 +1,23 @@
 //! Makes each call twice, of the library and of the model, and compares answers and all of the lent memory.
 
-use crate::fault::Fault;
-use crate::ffi::{self, Sum};
-use crate::memory::{Answer, Call, Memory, Settings, KINDS, NONE, SIZING};
-use crate::model::{Model, Refusal, Served};
+use aqua::Sum;
+use model::engine::{Model, Refusal, Served};
+use model::fault::Fault;
+use model::memory::{Answer, Call, Memory, Settings, KINDS, NONE, SIZING};
 
 /// Lines of the table: accepted, then the refusals in the order in which they are judged.
 pub const LINES: [&str; 11] = [
-    "0 accepted", "1 settings", "2 together", "3 lengths", "4 control", "5 row", "6 span", "7 row's pointers",
-    "8 epoch", "9 quarantine", "7 destination",
+    "0 accepted",
+    "1 settings",
+    "2 together",
+    "3 lengths",
+    "4 control",
+    "5 row",
+    "6 span",
+    "7 row's pointers",
+    "8 epoch",
+    "9 quarantine",
+    "7 destination",
 ];
 
 fn line(refusal: Option<Refusal>) -> usize {
@@ -47,7 +56,11 @@ impl Counts {
             print!("{name:<18}");
             for (kind, count) in counts.iter().enumerate() {
                 let at = LINES.iter().position(|l| l == name).unwrap_or(0);
-                if reachable(kind, at) { print!("{count:>10}") } else { print!("{:>10}", "-") }
+                if reachable(kind, at) {
+                    print!("{count:>10}")
+                } else {
+                    print!("{:>10}", "-")
+                }
             }
             println!("{:>12}", counts.iter().sum::<u64>());
         }
@@ -102,7 +115,7 @@ impl Pair {
         let blank = |length: usize| (0..length).map(|i| i as u8 ^ 0xA5).collect::<Vec<u8>>();
         self.buffer.clear();
         let mut expected_buffer = Vec::new();
-        let mut lent = ffi::lend(&mut self.library);
+        let mut lent = aqua::lend(&mut self.library);
         let (got, (expected, refusal)) = match call {
             Call::SetUp => (lent.set_up(s), plain(self.model.set_up(s))),
             Call::Tick => (lent.tick(s), plain(self.model.tick(s))),

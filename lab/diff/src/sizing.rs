@@ -1,20 +1,24 @@
 //! The two sizing sums against 128-bit arithmetic, and document 01's printed values.
 
-use crate::ffi::{least_size, most_activations, Sum};
 use crate::pair::Counts;
-use crate::rng::Rng;
+use aqua::{least_size, most_activations, Sum};
+use model::rng::Rng;
 
 fn within(value: u64, low: u64, high: u64) -> bool {
     (low..=high).contains(&value)
 }
 
 fn sum(holds: bool, value: impl FnOnce() -> u128) -> Sum {
-    if holds { Sum { number: 0, value: value() as u64 } } else { Sum { number: 1, value: 0 } }
+    if holds {
+        Sum { number: 0, value: value() as u64 }
+    } else {
+        Sum { number: 1, value: 0 }
+    }
 }
 
 fn argument(rng: &mut Rng, low: u64, high: u64) -> u64 {
     if rng.once_in(24) {
-        let far = rng.next();
+        let far = rng.word();
         rng.pick(&[low.wrapping_sub(1), high + 1, u64::MAX, far, 1 << 32, (1 << 32) + low])
     } else {
         rng.skewed(low, high)

@@ -1,11 +1,11 @@
 //! Sound histories: set-up, then mixtures of calls in hostile patterns. Beside the comparison with the model, a watcher
 //! from outside keeps the tally of demand 3 and the bytes that each visible row must hold.
 
-use crate::fault::Fault;
-use crate::memory::{Answer, Call, Memory, Settings, NONE};
 use crate::pair::{Counts, Pair};
-use crate::rng::Rng;
 use crate::tally::{self, Figures, Tally};
+use model::fault::Fault;
+use model::memory::{Answer, Call, Memory, Settings, NONE};
+use model::rng::Rng;
 
 /// What the watcher saw over many histories.
 #[derive(Default)]
@@ -121,11 +121,21 @@ impl Driver {
         match self.pattern {
             Pattern::Hammer(row) => row,
             Pattern::RoundRobin { from, width } => (from + self.step % width) % s.n,
-            Pattern::Alternate(one, other) => if self.step.is_multiple_of(2) { one } else { other },
+            Pattern::Alternate(one, other) => {
+                if self.step.is_multiple_of(2) {
+                    one
+                } else {
+                    other
+                }
+            }
             Pattern::JustMoved if !recent.is_empty() => rng.pick(recent),
             Pattern::AtHead => {
                 let guest = u32::from(memory.reverse[memory.control.head as usize]);
-                if guest == NONE { any(rng) } else { guest }
+                if guest == NONE {
+                    any(rng)
+                } else {
+                    guest
+                }
             }
             _ => any(rng),
         }
@@ -138,7 +148,11 @@ impl Driver {
         match rng.below(100) {
             0..=1 => {
                 let row = rng.pick(&[s.n, s.n + 1, 65_535, 65_536, u32::MAX]);
-                if rng.once_in(2) { Call::Read { row, length: w } } else { Call::Inspect { row } }
+                if rng.once_in(2) {
+                    Call::Read { row, length: w }
+                } else {
+                    Call::Inspect { row }
+                }
             }
             2 => Call::Read { row, length: rng.pick(&[0, w - 1, w + 1]) },
             3 => Call::Write { row, column: rng.pick(&[w, w + 1, usize::MAX]), bytes: rng.bytes(1) },
@@ -198,7 +212,7 @@ pub fn history(
 ) -> Result<(), String> {
     let mut memory = Memory::raw(s, 0);
     if memory.store.len() <= 1 << 22 {
-        memory = Memory::raw(s, rng.next() as u8);
+        memory = Memory::raw(s, rng.word() as u8);
         memory.store = rng.bytes(memory.store.len());
     }
     seen.histories += 1;

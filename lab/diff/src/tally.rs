@@ -1,7 +1,7 @@
 //! The tally of demand 3, kept from outside: it is fed the calls and, from the answers, the number, the slot moved to
 //! and the row sent home. It sees no table, no tracker and no control record.
 
-use crate::memory::{Answer, Call, Settings, NONE};
+use model::memory::{Answer, Call, Settings, NONE};
 
 /// What one epoch added.
 #[derive(Clone, Copy, PartialEq, Eq, Debug, Default)]
@@ -110,9 +110,11 @@ impl Tally {
 pub fn judge(s: &Settings, f: &Figures) -> Result<(), String> {
     let a = u64::from(s.a);
     let most = u64::from(s.l / s.a);
-    let holds = f.home <= a + 2
-        && f.slot <= 2 * a + 3
-        && f.quarantines <= most
-        && (u64::from(s.q) < 2 * most || f.spent == 0);
-    if holds { Ok(()) } else { Err(format!("an epoch breaks demand 3's bounds: {f:?} with {s:?}")) }
+    let holds =
+        f.home <= a + 2 && f.slot <= 2 * a + 3 && f.quarantines <= most && (u64::from(s.q) < 2 * most || f.spent == 0);
+    if holds {
+        Ok(())
+    } else {
+        Err(format!("an epoch breaks demand 3's bounds: {f:?} with {s:?}"))
+    }
 }

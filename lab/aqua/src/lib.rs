@@ -1,6 +1,6 @@
 //! The C interface of include/aqua.h and safe calls over slices. A slice's pointer is never null, also if it is empty.
 
-use crate::memory::{Answer, Control, Memory, Settings};
+use model::memory::{Answer, Control, Memory, Settings};
 
 #[repr(C)]
 #[derive(Clone, Copy)]
@@ -25,6 +25,7 @@ pub struct Sum {
     pub value: u64,
 }
 
+#[rustfmt::skip] // a pointer and its length stand together
 #[link(name = "rank", kind = "static")]
 extern "C" {
     fn aqua_set_up(
@@ -77,6 +78,7 @@ pub struct Lent<'a> {
     pub counts: &'a mut [u32],
 }
 
+#[inline]
 pub fn lend(memory: &mut Memory) -> Lent<'_> {
     Lent {
         control: &mut memory.control,
@@ -88,11 +90,14 @@ pub fn lend(memory: &mut Memory) -> Lent<'_> {
     }
 }
 
+#[inline]
 fn answer(o: Outcome) -> Answer {
     Answer { place: o.place, slot: o.slot, row: o.row, ..Answer::bare(o.number) }
 }
 
+#[rustfmt::skip]
 impl Lent<'_> {
+    #[inline]
     pub fn set_up(&mut self, s: &Settings) -> Answer {
         // Safety: every pointer comes with the length of the slice that it was taken from, and slices do not overlap.
         Answer::bare(unsafe {
@@ -104,6 +109,7 @@ impl Lent<'_> {
         })
     }
 
+    #[inline]
     pub fn read(&mut self, s: &Settings, row: u32, buffer: &mut [u8]) -> Answer {
         // Safety: as above.
         answer(unsafe {
@@ -115,6 +121,7 @@ impl Lent<'_> {
         })
     }
 
+    #[inline]
     pub fn write(&mut self, s: &Settings, row: u32, column: usize, bytes: &[u8]) -> Answer {
         // Safety: as above.
         answer(unsafe {
@@ -126,6 +133,7 @@ impl Lent<'_> {
         })
     }
 
+    #[inline]
     pub fn tick(&mut self, s: &Settings) -> Answer {
         // Safety: as above.
         Answer::bare(unsafe {

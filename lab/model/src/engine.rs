@@ -114,7 +114,11 @@ impl Model {
         let spill_high = spill >= s.a && !(self.planted(Fault::SpillAtThresholdTaken) && spill == s.a);
         let counts_high = above && !self.planted(Fault::CountsNotJudged);
         let unsound = head >= s.q || passed > s.q || acts > s.l || spill > acts || spill_high || counts_high;
-        if unsound { Err(Refusal::Control) } else { Ok(()) }
+        if unsound {
+            Err(Refusal::Control)
+        } else {
+            Ok(())
+        }
     }
 
     /// The slot that the row sits in, if any.
@@ -168,7 +172,11 @@ impl Model {
             }
             Some(_) => return Err(Refusal::Destination),
         };
-        if spent { Err(Refusal::Spent) } else { Ok(Journey { to, rise, evicts }) }
+        if spent {
+            Err(Refusal::Spent)
+        } else {
+            Ok(Journey { to, rise, evicts })
+        }
     }
 
     fn plan(&self, s: &Settings, row: u32, fits: bool) -> Result<Plan, Refusal> {

@@ -47,9 +47,7 @@ impl Memory {
 
     /// Bytes that one comparison looks at.
     pub fn bytes(&self) -> usize {
-        self.store.len()
-            + 2 * (self.forward.len() + self.reverse.len() + self.rows.len())
-            + 4 * self.counts.len()
+        self.store.len() + 2 * (self.forward.len() + self.reverse.len() + self.rows.len()) + 4 * self.counts.len()
     }
 
     /// The first place where two memories differ.
@@ -131,6 +129,7 @@ pub struct Answer {
 pub const NONE: u32 = 65535;
 
 impl Answer {
+    #[inline]
     pub fn bare(number: u32) -> Answer {
         Answer { number, place: 0, slot: NONE, row: NONE, start: 0, length: 0 }
     }

@@ -1,0 +1,55 @@
+//! How a table is searched: as one writes it first, and in blocks without branches.
+
+/// The three searches of an access.
+pub trait Scan {
+    /// The lowest tracker entry that names the physical row.
+    fn row(rows: &[u16], name: u16) -> Option<usize>;
+    /// The lowest tracker entry with that count.
+    fn count(counts: &[u32], value: u32) -> Option<usize>;
+    /// Some count is above the limit.
+    fn any_above(counts: &[u32], limit: u32) -> bool;
+}
+
+/// Iterators that stop at the first hit.
+pub struct Plain;
+
+impl Scan for Plain {
+    fn row(rows: &[u16], name: u16) -> Option<usize> {
+        rows.iter().position(|&row| row == name)
+    }
+
+    fn count(counts: &[u32], value: u32) -> Option<usize> {
+        counts.iter().position(|&count| count == value)
+    }
+
+    fn any_above(counts: &[u32], limit: u32) -> bool {
+        counts.iter().any(|&count| count > limit)
+    }
+}
+
+/// Blocks of 64 entries, each examined whole, so that the compiler takes vector instructions; then one by one within
+/// the first block that has a hit, or within what is left behind the last whole block.
+pub struct Blocks;
+
+const BLOCK: usize = 64;
+
+fn lowest<T: Copy + PartialEq>(table: &[T], value: T) -> Option<usize> {
+    let (blocks, _) = table.as_chunks::<BLOCK>();
+    let whole = blocks.iter().take_while(|block| !block.iter().fold(false, |hit, &x| hit | (x == value))).count();
+    let from = whole * BLOCK;
+    table[from..].iter().position(|&x| x == value).map(|at| from + at)
+}
+
+impl Scan for Blocks {
+    fn row(rows: &[u16], name: u16) -> Option<usize> {
+        lowest(rows, name)
+    }
+
+    fn count(counts: &[u32], value: u32) -> Option<usize> {
+        lowest(counts, value)
+    }
+
+    fn any_above(counts: &[u32], limit: u32) -> bool {
+        counts.iter().fold(false, |hit, &count| hit | (count > limit))
+    }
+}

@@ -1,0 +1,7 @@
+//! The engine of document 01, written a second time and from that document alone, and what the comparisons share: lent
+//! memory as plain data, the faults that can be planted, and pseudo-random numbers.
+
+pub mod engine;
+pub mod fault;
+pub mod memory;
+pub mod rng;

@@ -1,0 +1,101 @@
+//! What the compared files held: that every kind of judgement and of step was reached, and how often.
+
+use crate::file::File;
+use crate::interpret::{Printed, Seen, Verdict, FILE_MOST, STEPS_MOST, TICK};
+
+#[derive(Default)]
+pub struct Census {
+    pub files: u64,
+    form: u64,
+    settings: [u64; 2],
+    store: u64,
+    ran: u64,
+    /// Files with no steps, with the most steps, and of the most bytes, that were not refused.
+    no_steps: u64,
+    most_steps: u64,
+    most_bytes: u64,
+    /// Files of one byte too many.
+    byte_too_many: u64,
+    steps: Seen,
+    /// Steps whose row is no 16-bit number, or only just.
+    large_rows: u64,
+}
+
+impl Census {
+    pub fn note(&mut self, file: &File, printed: &Printed) {
+        self.files += 1;
+        self.byte_too_many += u64::from(file.bytes.len() == FILE_MOST + 1);
+        match printed.verdict {
+            Verdict::Form => self.form += 1,
+            Verdict::Settings(number) => self.settings[usize::from(number != 1)] += 1,
+            Verdict::Store => self.store += 1,
+            Verdict::Ran(seen) => {
+                self.ran += 1;
+                let reads: u64 = seen.reads.iter().sum();
+                let steps = (reads + seen.ticks) as usize;
+                self.no_steps += u64::from(steps == 0);
+                self.most_steps += u64::from(steps == STEPS_MOST);
+                self.most_bytes += u64::from(file.bytes.len() == FILE_MOST);
+                self.add(&seen);
+                self.large_rows += large_rows(&file.bytes, steps);
+            }
+        }
+    }
+
+    fn add(&mut self, seen: &Seen) {
+        self.steps.reads.iter_mut().zip(seen.reads).for_each(|(sum, count)| *sum += count);
+        self.steps.ticks += seen.ticks;
+        self.steps.moved += seen.moved;
+        self.steps.sent_home += seen.sent_home;
+    }
+
+    fn lines(&self) -> [(&'static str, u64, u64); 17] {
+        let reads = self.steps.reads;
+        [
+            ("form refused", self.form, 1_000),
+            ("settings refused with 1", self.settings[0], 100),
+            ("settings refused with 2", self.settings[1], 50),
+            ("store too large", self.store, 50),
+            ("steps made", self.ran, 2_000),
+            ("no steps", self.no_steps, 50),
+            ("4,096 steps", self.most_steps, 20),
+            ("65,536 bytes, not refused", self.most_bytes, 10),
+            ("65,537 bytes", self.byte_too_many, 10),
+            ("reads accepted", reads[0], 50_000),
+            ("   rows moved", self.steps.moved, 5_000),
+            ("   rows sent home", self.steps.sent_home, 1_000),
+            ("reads refused with 5", reads[5], 1_000),
+            ("   rows from 65,534 on", self.large_rows, 1_000),
+            ("reads refused with 8", reads[8], 1_000),
+            ("reads refused with 9", reads[9], 1_000),
+            ("ticks", self.steps.ticks, 1_000),
+        ]
+    }
+
+    pub fn print(&self) {
+        for (what, count, _) in self.lines() {
+            println!("   {what:<28}{count:>9}");
+        }
+    }
+
+    /// Every line was reached often enough, and no step met a number that no trace can meet.
+    pub fn judge(&self) -> Result<(), String> {
+        for (what, count, least) in self.lines() {
+            if count < least {
+                return Err(format!("{} was reached only {count} times, of {least}", what.trim()));
+            }
+        }
+        match [1, 2, 3, 4, 6, 7].iter().find(|&&number| self.steps.reads[number] != 0) {
+            Some(number) => Err(format!("a step was refused with {number}")),
+            None => Ok(()),
+        }
+    }
+}
+
+/// Rows of 65,534 and more among the steps of a well-formed file.
+fn large_rows(bytes: &[u8], steps: usize) -> u64 {
+    let words: Vec<&[u8]> = bytes.split(|byte| b" \n".contains(byte)).filter(|word| !word.is_empty()).collect();
+    let value = |word: &[u8]| word.iter().fold(0u64, |value, digit| value * 10 + u64::from(digit - b'0'));
+    let rows = words[words.len().saturating_sub(steps)..].iter().map(|word| value(word));
+    rows.filter(|&row| row >= 65_534 && row != u64::from(TICK)).count() as u64
+}

@@ -1,0 +1,277 @@
+//! The trace program of document 01, written a second time and from that document alone: bytes in, bytes out. One
+//! deliberate error can be planted.
+
+use crate::flaw::Flaw;
+use model::engine::{Model, Refusal, Served};
+use model::memory::{Control, Memory, Settings};
+use std::fmt::Write;
+
+pub const FILE_MOST: usize = 65_536;
+pub const STORE_MOST: u64 = 32_768;
+pub const STEPS_MOST: usize = 4_096;
+pub const TICK: u32 = 65_535;
+
+/// How a file was judged, and what its steps did.
+#[derive(Clone, Copy, PartialEq, Eq, Debug)]
+pub enum Verdict {
+    /// The form is refused.
+    Form,
+    /// The settings are refused with this number.
+    Settings(u32),
+    /// The store is too large.
+    Store,
+    Ran(Seen),
+}
+
+#[derive(Clone, Copy, PartialEq, Eq, Debug, Default)]
+pub struct Seen {
+    /// Steps that read a row, by number.
+    pub reads: [u64; 10],
+    pub ticks: u64,
+    pub moved: u64,
+    pub sent_home: u64,
+}
+
+pub struct Printed {
+    pub text: String,
+    pub verdict: Verdict,
+}
+
+/// What a byte means to the reader of numbers.
+enum Symbol {
+    Digit(u64),
+    Blank,
+    Nothing,
+    End,
+    Wrong,
+}
+
+fn symbol(byte: u8, flaw: Flaw) -> Symbol {
+    let byte = if flaw == Flaw::HighBitDropped { byte & 127 } else { byte };
+    match byte {
+        b'0'..=b'9' => Symbol::Digit(u64::from(byte - b'0')),
+        b' ' | b'\n' => Symbol::Blank,
+        b'\t' if flaw == Flaw::TabIsBlank => Symbol::Blank,
+        b'\r' if flaw == Flaw::ReturnIsBlank => Symbol::Blank,
+        b',' if flaw == Flaw::CommaIsBlank => Symbol::Blank,
+        b'+' | b'-' if flaw == Flaw::SignTaken => Symbol::Nothing,
+        b'a'..=b'z' if flaw == Flaw::LetterEndsNumber => Symbol::Blank,
+        0 if flaw == Flaw::NulEndsFile => Symbol::End,
+        _ => Symbol::Wrong,
+    }
+}
+
+/// A number with one more digit. Numbers stay below 2 to the 36, so nothing is lost.
+fn with_digit(value: u64, digit: u64, flaw: Flaw) -> Option<u64> {
+    let next = match flaw {
+        Flaw::NumbersWrapAt64Bits => value.wrapping_mul(10).wrapping_add(digit),
+        _ => value * 10 + digit,
+    };
+    match flaw {
+        _ if next < 4_294_967_295 => Some(next),
+        Flaw::NumbersWrapAt32Bits => Some(next % (1 << 32)),
+        Flaw::NumbersWrapAt64Bits => Some(next),
+        Flaw::LargeNumbersCut => Some(next.min(4_294_967_295)),
+        Flaw::LargestNumberRefused => None,
+        _ => Some(next).filter(|&next| next == 4_294_967_295),
+    }
+}
+
+/// The numbers of a file; none where a byte is no digit and no blank, or a number is too large.
+fn numbers(input: &[u8], flaw: Flaw) -> Option<Vec<u32>> {
+    let mut all = Vec::new();
+    let mut now: Option<(u64, usize)> = None;
+    for (at, &byte) in input.iter().enumerate() {
+        match symbol(byte, flaw) {
+            Symbol::Digit(digit) => {
+                let (value, digits) = now.unwrap_or((0, 0));
+                if flaw == Flaw::LongNumbersRefused && digits == 10 {
+                    return None;
+                }
+                now = Some((with_digit(value, digit, flaw)?, digits + 1));
+            }
+            Symbol::Blank => {
+                let refused = match flaw {
+                    Flaw::LeadingBlanksRefused => at == 0,
+                    Flaw::RepeatedBlanksRefused => now.is_none() && at > 0,
+                    _ => false,
+                };
+                if refused {
+                    return None;
+                }
+                all.extend(now.take());
+            }
+            Symbol::Nothing => {}
+            Symbol::End => break,
+            Symbol::Wrong => return None,
+        }
+    }
+    if flaw != Flaw::LastNumberNeedsBlank {
+        all.extend(now);
+    }
+    // With numbers that wrap at 64 bits one may still be too large.
+    all.into_iter().map(|(value, _)| u32::try_from(value).ok()).collect()
+}
+
+/// The two sections: six settings, and the steps.
+fn sections(numbers: &[u32], flaw: Flaw) -> Option<(Settings, Vec<u32>)> {
+    let (&count, rest) = numbers.split_first()?;
+    let rest = if flaw == Flaw::SevenSettingsTaken && count == 7 && rest.len() > 7 { &rest[1..] } else { rest };
+    let count_fits =
+        count == 6 || flaw == Flaw::FirstCountNotJudged || (flaw == Flaw::SevenSettingsTaken && count == 7);
+    let (&[n, q, w, k, a, l], rest) = rest.split_first_chunk::<6>()?;
+    let settings = Settings { n, q, w, k, a, l };
+    if !count_fits {
+        return None;
+    }
+    let Some((&count, steps)) = rest.split_first() else {
+        return (flaw == Flaw::OneSectionTaken).then_some((settings, Vec::new()));
+    };
+    let most = match flaw {
+        Flaw::SecondCountNotJudged => usize::MAX,
+        Flaw::MostStepsRefused => STEPS_MOST - 1,
+        _ => STEPS_MOST,
+    };
+    let wanted = count as usize;
+    let fits = match flaw {
+        Flaw::StepsMissingTaken => steps.len() <= wanted,
+        Flaw::StepsBeyondTaken => steps.len() >= wanted,
+        _ => steps.len() == wanted,
+    };
+    let steps = steps.get(..wanted.min(steps.len()))?.to_vec();
+    (wanted <= most && fits).then_some((settings, steps))
+}
+
+/// The number by which the settings are refused. The engine judges them before it looks at what is lent, here nothing.
+fn settings_number(s: &Settings, flaw: Flaw) -> Option<u32> {
+    let product = u64::from(s.a) * (u64::from(s.k) + 1);
+    if flaw == Flaw::TogetherBeforeRanges && u64::from(s.l) >= product {
+        return Some(2);
+    }
+    let nothing = Memory {
+        store: Vec::new(),
+        forward: Vec::new(),
+        reverse: Vec::new(),
+        rows: Vec::new(),
+        counts: Vec::new(),
+        control: Control::default(),
+    };
+    match Model::new(nothing, flaw.below()).set_up(s) {
+        Err(refusal @ (Refusal::Setting | Refusal::Together)) => Some(refusal.number()),
+        _ => None,
+    }
+}
+
+fn store_fits(s: &Settings, flaw: Flaw) -> bool {
+    let rows = u64::from(s.n) + u64::from(s.q);
+    let size = u128::from(rows) * u128::from(s.w);
+    match flaw {
+        Flaw::StoreOneMoreTaken => size <= u128::from(STORE_MOST) + 1,
+        Flaw::FullStoreRefused => size < u128::from(STORE_MOST),
+        Flaw::StoreSizeCutTo16Bits => size < 1 << 20 && size % (1 << 16) <= u128::from(STORE_MOST),
+        _ => size <= u128::from(STORE_MOST),
+    }
+}
+
+fn refused(verdict: Verdict) -> Printed {
+    Printed { text: "trace refused\n".to_string(), verdict }
+}
+
+fn settings_refused(number: u32) -> Printed {
+    Printed { text: format!("0 {number} - - -\n"), verdict: Verdict::Settings(number) }
+}
+
+/// The line of one step, without its number in the list.
+fn line(text: &mut String, s: &Settings, row: u32, answer: &Result<Served, Refusal>, flaw: Flaw) {
+    let none = if flaw == Flaw::NoneAsZero { "0" } else { "-" };
+    let or_none = |n: Option<usize>| n.map_or(none.to_string(), |n| n.to_string());
+    let _ = match answer {
+        Ok(served) => {
+            let shift = if flaw == Flaw::SlotAsPhysicalRow { s.n as usize } else { 0 };
+            let slot = or_none(served.moved_to.map(|slot| slot + shift));
+            writeln!(text, " 0 {} {slot} {}", served.place, or_none(served.sent_home))
+        }
+        Err(refusal) if flaw == Flaw::RefusalShowsPlace => writeln!(text, " {} {row} {none} {none}", refusal.number()),
+        Err(refusal) => writeln!(text, " {} {none} {none} {none}", refusal.number()),
+    };
+}
+
+fn run(s: &Settings, steps: &[u32], flaw: Flaw) -> Printed {
+    let mut seen = Seen::default();
+    let mut text = String::new();
+    let mut engine = Model::new(Memory::raw(s, 0), flaw.below());
+    if let Err(refusal) = engine.set_up(s) {
+        return settings_refused(refusal.number());
+    }
+    let mut buffer = vec![0; s.w as usize];
+    let from = if flaw == Flaw::StepFromZero { 0 } else { 1 };
+    for (number, &step) in (from..).zip(steps) {
+        let _ = write!(text, "{number}");
+        if step == TICK && flaw != Flaw::TickPrintedAsRead {
+            let ticked = if flaw == Flaw::TickNotMade { Ok(()) } else { engine.tick(s) };
+            let none = if flaw == Flaw::NoneAsZero { "0" } else { "-" };
+            let _ = writeln!(text, " {} {none} {none} {none}", ticked.err().map_or(0, Refusal::number));
+            seen.ticks += 1;
+            continue;
+        }
+        let row = if flaw == Flaw::RowsCutTo16Bits { step % (1 << 16) } else { step };
+        let answer = engine.read(s, row, &mut buffer);
+        let number = answer.as_ref().err().map_or(0, |refusal| refusal.number());
+        seen.reads[number as usize % 10] += 1;
+        seen.moved += u64::from(answer.as_ref().is_ok_and(|served| served.moved_to.is_some()));
+        seen.sent_home += u64::from(answer.as_ref().is_ok_and(|served| served.sent_home.is_some()));
+        line(&mut text, s, row, &answer, flaw);
+    }
+    Printed { text, verdict: Verdict::Ran(seen) }
+}
+
+fn judge_form(input: &[u8], flaw: Flaw) -> Option<(Settings, Vec<u32>)> {
+    let most = match flaw {
+        Flaw::LongFileTaken => FILE_MOST + 1,
+        Flaw::FullFileRefused => FILE_MOST - 1,
+        _ => FILE_MOST,
+    };
+    let input = if flaw == Flaw::LongFileCut { &input[..input.len().min(most)] } else { input };
+    if input.len() > most {
+        return None;
+    }
+    sections(&numbers(input, flaw)?, flaw)
+}
+
+/// What the trace program prints for a file.
+pub fn interpret(input: &[u8], flaw: Flaw) -> Printed {
+    if flaw == Flaw::EmptyFileTaken && input.iter().all(|byte| b" \n".contains(byte)) && input.len() <= FILE_MOST {
+        return Printed { text: String::new(), verdict: Verdict::Ran(Seen::default()) };
+    }
+    let early = || {
+        let all = numbers(input, flaw)?;
+        let &[_, n, q, w, k, a, l] = all.first_chunk::<7>()?;
+        settings_number(&Settings { n, q, w, k, a, l }, flaw)
+    };
+    if flaw == Flaw::SettingsBeforeForm {
+        if let Some(number) = early() {
+            return settings_refused(number);
+        }
+    }
+    let Some((s, steps)) = judge_form(input, flaw) else {
+        return refused(Verdict::Form);
+    };
+    if flaw == Flaw::StoreBeforeSettings && !store_fits(&s, flaw) {
+        return refused(Verdict::Store);
+    }
+    if let Some(number) = settings_number(&s, flaw) {
+        let mut printed = settings_refused(number);
+        if flaw == Flaw::RefusedSettingsGoOn {
+            (1..=steps.len()).for_each(|at| printed.text += &format!("{at} {number} - - -\n"));
+        }
+        return printed;
+    }
+    if !store_fits(&s, flaw) {
+        return refused(Verdict::Store);
+    }
+    let mut printed = run(&s, &steps, flaw);
+    if flaw == Flaw::NoLastNewline {
+        printed.text.pop();
+    }
+    printed
+}

@@ -1,0 +1,125 @@
+//! Files with the lines that document 01 prints for them, or that were derived from it by hand.
+
+const REFUSED: &str = "trace refused\n";
+
+pub struct Vector {
+    pub file: Vec<u8>,
+    pub printed: String,
+}
+
+/// The session that document 01 prints.
+const SESSION: (&str, &str) = (
+    "6 4 2 1 2 2 5 17 1 1 1 1 1 1 65535 1 1 2 2 3 65535 3 3 2 2",
+    "1 0 1 - -\n2 0 1 0 -\n3 0 4 - -\n4 0 4 1 -\n5 0 5 - -\n6 8 - - -\n7 0 - - -\n8 0 5 - -\n9 0 5 0 -\n10 0 2 - -\n\
+     11 0 2 1 -\n12 0 3 - -\n13 0 - - -\n14 0 3 - -\n15 0 3 0 1\n16 0 5 - -\n17 9 - - -\n",
+);
+
+/// Steps and settings, worked out line by line.
+const DERIVED: [(&str, &str); 18] = [
+    // Document 01's edges of the settings; 1 comes before 2.
+    ("6 4 2 1 2 2 5 0", ""),
+    ("6 4 2 1 2 2 6 0", "0 2 - - -\n"),
+    ("6 4 1 1 2 2 5 0", "0 1 - - -\n"),
+    ("6 4 1 1 2 2 6 0", "0 1 - - -\n"),
+    // Settings are judged before the store, and nothing more is printed.
+    ("6 60000 5500 8192 2 2 6 2 1 1", "0 2 - - -\n"),
+    ("6 60001 5500 8192 2 2 5 2 1 1", "0 1 - - -\n"),
+    ("6 4294967295 4294967295 4294967295 4294967295 4294967295 4294967295 0", "0 1 - - -\n"),
+    // A = 1: each access moves the row, which leaves its own slot behind.
+    (
+        "6 1 2 1 1 1 1 7 0 0 65535 0 65535 0 0",
+        "1 0 0 0 -\n2 8 - - -\n3 0 - - -\n4 0 1 1 -\n5 0 - - -\n6 0 2 0 -\n7 8 - - -\n",
+    ),
+    // A row that sits in the slot at the head passes it; the row in the next one goes home.
+    (
+        "6 2 2 1 1 1 1 9 0 65535 1 65535 0 65535 1 65535 0",
+        "1 0 0 0 -\n2 0 - - -\n3 0 1 1 -\n4 0 - - -\n5 0 2 1 1\n6 0 - - -\n7 0 1 0 -\n8 0 - - -\n9 0 3 0 1\n",
+    ),
+    // Both slots gone by: 9, for every row, until a tick.
+    ("6 2 2 1 3 1 3 6 0 0 0 1 65535 1", "1 0 0 0 -\n2 0 2 1 -\n3 9 - - -\n4 9 - - -\n5 0 - - -\n6 0 1 0 -\n"),
+    // One entry: row 1 raises spill, and row 2 then takes the entry with spill + 1 = A.
+    ("6 3 2 1 1 2 3 4 0 1 2 0", "1 0 0 - -\n2 0 1 - -\n3 0 2 0 -\n4 8 - - -\n"),
+    // Rows that do not exist, whatever the epoch.
+    ("6 1 2 1 1 1 1 5 1 65534 65536 4294967295 0", "1 5 - - -\n2 5 - - -\n3 5 - - -\n4 5 - - -\n5 0 0 0 -\n"),
+    // Ticks alone, with leading zeros.
+    ("006 04 2 1 2 2 5 02 00065535 65535", "1 0 - - -\n2 0 - - -\n"),
+    // Blanks and newlines lead, trail and repeat.
+    ("\n\n 6\n4 2  1 2 2 5\n\n1 3 \n", "1 0 3 - -\n"),
+    // Stores of exactly 32,768 bytes.
+    ("6 32766 2 1 1 1 1 3 32765 65535 32765", "1 0 32765 0 -\n2 0 - - -\n3 0 32766 1 -\n"),
+    ("6 2 2 8192 1 1 1 1 1", "1 0 1 0 -\n"),
+    ("6 1 3 8192 4096 65535 1360000 1 0", "1 0 0 - -\n"),
+    ("6 27268 5500 1 4096 1 4096 2 27267 27267", "1 0 27267 0 -\n2 0 27268 1 -\n"),
+];
+
+/// Files refused whole.
+const NO_TRACE: [&str; 34] = [
+    "",
+    " ",
+    "\n",
+    "6",
+    "6 4 2 1 2 2 5",
+    "6 4 2 1 2 2 5\n",
+    "4 2 1 2 2 5 0",
+    // Counts that do not fit.
+    "5 4 2 1 2 2 0",
+    "7 4 2 1 2 2 5 0",
+    "7 4 2 1 2 2 5 1 0",
+    "0 0",
+    "6 4 2 1 2 2 5 1",
+    "6 4 2 1 2 2 5 0 0",
+    "6 4 2 1 2 2 5 2 1",
+    "6 4 2 1 2 2 5 1 1 1",
+    "6 4 2 1 2 2 5 4097 1",
+    // Bytes of no number and no blank.
+    "6\t4 2 1 2 2 5 0",
+    "6 4 2 1 2 2 5 0\r\n",
+    "6,4,2,1,2,2,5,0",
+    "6 4 2 1 2 2 5 0 \0",
+    "+6 4 2 1 2 2 5 0",
+    "6 4 2 1 2 2 5 1 -1",
+    "6 4 2 1 2 2 5 1 0x1",
+    "6 4 2 1 2 2 5 1 1.",
+    "6 4 2 1 2 2 5 1 -",
+    // Numbers too large, which modulo 2 to the 32 or 64 would do.
+    "6 4 2 1 2 2 5 1 4294967296",
+    "4294967302 4 2 1 2 2 5 0",
+    "18446744073709551622 4 2 1 2 2 5 0",
+    "6 4 2 1 2 2 4294967301 0",
+    "6 4 2 1 2 2 5 4294967296",
+    // The form is judged before the settings.
+    "6 0 0 0 0 0 0 1",
+    "6 4 1 1 2 2 5 0 0",
+    // The store is one byte or more too large.
+    "6 32767 2 1 1 1 1 0",
+    "6 3 2 8192 1 1 1 0",
+];
+
+pub fn all() -> Vec<Vector> {
+    let pair =
+        |&(file, printed): &(&str, &str)| Vector { file: file.as_bytes().to_vec(), printed: printed.to_string() };
+    let mut all: Vec<Vector> = std::iter::once(&SESSION).chain(&DERIVED).map(pair).collect();
+    all.extend(NO_TRACE.map(|file| Vector { file: file.as_bytes().to_vec(), printed: REFUSED.to_string() }));
+    // The session in a file of exactly 65,536 bytes, and in one of a byte more.
+    for (length, printed) in [(65_536, SESSION.1), (65_537, REFUSED)] {
+        for with in [' ', '\n', '0'] {
+            let fill = with.to_string().repeat(length - SESSION.0.len());
+            all.push(Vector { file: format!("{fill}{}", SESSION.0).into_bytes(), printed: printed.to_string() });
+        }
+    }
+    // The session with its first number behind 400 zeros, and with a row of 10 to the 400 in place of the last.
+    let zeros = "0".repeat(400);
+    all.push(Vector { file: format!("{zeros}{}", SESSION.0).into_bytes(), printed: SESSION.1.to_string() });
+    let cut = SESSION.0.len() - 1;
+    all.push(Vector { file: format!("{}1{zeros}", &SESSION.0[..cut]).into_bytes(), printed: REFUSED.to_string() });
+    // The most steps: row 3 and ticks in turn. One step more is refused.
+    let pairs = |count: usize| "3 65535 ".repeat(count / 2) + if count.is_multiple_of(2) { "" } else { "3" };
+    let lines = |count: usize| -> String {
+        let line = |at: usize| if at.is_multiple_of(2) { format!("{at} 0 - - -\n") } else { format!("{at} 0 3 - -\n") };
+        (1..=count).map(line).collect()
+    };
+    for (count, printed) in [(4_095, lines(4_095)), (4_096, lines(4_096)), (4_097, REFUSED.to_string())] {
+        all.push(Vector { file: format!("6 4 2 1 2 2 5 {count} {}", pairs(count)).into_bytes(), printed });
+    }
+    all
+}
