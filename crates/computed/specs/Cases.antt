@@ -39,6 +39,7 @@ abbrev pub lines : List String → List ℕ
 lines [] = []
 lines (l ∷ ls) = ascii l ++ (10 ∷ lines ls)
 
+-- what a case asks of the definitions
 unfoldable pub holds : Case → Bool
 holds (size pair) = agrees pair
 holds (activations times figure) = gives (mostActivations times) figure
@@ -73,6 +74,7 @@ session =
     ∷ []
     )
 
+-- every case marked [p]
 abbrev pub table : List Case
 table =
     -- 'a table of six pairs .., proved to agree with the first sum [p]'
@@ -90,5 +92,6 @@ table =
     ∷ []
     )
 
+-- all of them hold
 abbrev pub AllHold : Type 0
 AllHold = every holds table ≡ true

@@ -32,12 +32,14 @@ served place m = record { number = 0; place = Number place; slot = slotFigure m;
 abbrev pub bare : ℕ → Line
 bare number = record { number = number; place = Dash; slot = Dash; row = Dash }
 
+-- the line of a read, by the cases of its answer
 abbrev pub lineOfAccess : Access → Line
 lineOfAccess (Refused number) = bare number
 lineOfAccess (Done p m) = served (p .0) m
 
 -- ---- from a line to bytes: fields with a blank (32) between them, `-` (45) for none, a newline (10) at the end
 
+-- '`-` for none'
 abbrev pub figureBytes : Figure → List ℕ
 figureBytes Dash = 45 ∷ []
 figureBytes (Number n) = decimal n

@@ -29,6 +29,7 @@ played S steps =
     (cond (leb (storeBytes S) 32768) (linesFrom 1 (stepsFrom S ((calls.setUp S (lent S)) .state) (S .w) steps)) refusedLine)
     (lineBytes 0 (bare (settingsNumber S)))
 
+-- the same, where the form is refused too
 abbrev pub playedForm : Option Recorded → List ℕ
 playedForm none = refusedLine
 playedForm (some trace) = played (trace .settings) (trace .steps)

@@ -31,20 +31,21 @@ lent S =
       control = record { head = 0; passed = 0; spill = 0; acts = 0 };
     }
 
--- 'on a tick or refusal'
+-- a read or a write; a trace makes reads and ticks
 abbrev pub isAccess : Call → Bool
 isAccess (read r buffer) = true
 isAccess (write r column bytes) = true
 isAccess tick = false
 isAccess (inspect r) = false
 
+-- the line of a step; '`-` .. for all three on a tick or refusal'
 abbrev pub lineOf : Event → Line
 lineOf e =
     cond (isAccess (e .call) && eqb (e .answer .number) 0)
     (served (e .answer .place) (e .answer .moved))
     (bare (e .answer .number))
 
--- a step: the memory after it, and its line
+-- a step as `replay::step` gives it: the memory after it, and its line
 pub record Shown : Type 0 where
   pub state : State
   pub line : Line
@@ -52,9 +53,11 @@ pub record Shown : Type 0 where
 abbrev pub steppedOf : State → Line → Shown
 steppedOf σ line = record { state = σ; line = line }
 
+-- the step that is a call
 abbrev pub answered : Settings → State → Call → Shown
 answered S σ c = steppedOf ((step S σ c) .state) (lineOf (record { call = c; answer = (step S σ c) .answer }))
 
+-- the step that is the number x of the trace
 unfoldable pub stepped : Settings → State → ℕ → ℕ → Shown
 stepped S σ w x = answered S σ (callOf w x)
 
