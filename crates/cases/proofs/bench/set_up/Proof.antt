@@ -1,0 +1,67 @@
+-- `cases::bench::set_up`: each part lent is as long as it says, since `sized` bounds it. Assumes nothing.
+use mathlib.Core.Path.{sym}
+use borrow.Author.Needs.{needs}
+use lib.Seq.{length-take-le}
+use Rattle.cases.proofs.bench.set_up.Statement.{statement}
+use Rattle.cases.proofs.bench.set_up.Tie as tie
+
+sized-requires : tie.Need-sized-requires
+sized-requires c κs = search needs
+
+array-share-prefix-store : tie.Need-array-share-prefix-store
+array-share-prefix-store c = search needs
+
+slice-aggregate-set-up : tie.Need-slice-aggregate-set-up
+slice-aggregate-set-up c = sym (length-take-le _ _ (search needs))
+
+array-borrow-prefix-forward : tie.Need-array-borrow-prefix-forward
+array-borrow-prefix-forward c = search needs
+
+slice-aggregate-set-up-2 : tie.Need-slice-aggregate-set-up-2
+slice-aggregate-set-up-2 c = sym (length-take-le _ _ (search needs))
+
+array-borrow-prefix-reverse : tie.Need-array-borrow-prefix-reverse
+array-borrow-prefix-reverse c = search needs
+
+slice-aggregate-set-up-3 : tie.Need-slice-aggregate-set-up-3
+slice-aggregate-set-up-3 c = sym (length-take-le _ _ (search needs))
+
+array-borrow-prefix-rows : tie.Need-array-borrow-prefix-rows
+array-borrow-prefix-rows c = search needs
+
+slice-aggregate-set-up-4 : tie.Need-slice-aggregate-set-up-4
+slice-aggregate-set-up-4 c = sym (length-take-le _ _ (search needs))
+
+array-borrow-prefix-counts : tie.Need-array-borrow-prefix-counts
+array-borrow-prefix-counts c = search needs
+
+slice-aggregate-set-up-5 : tie.Need-slice-aggregate-set-up-5
+slice-aggregate-set-up-5 c = sym (length-take-le _ _ (search needs))
+
+set-up-requires : tie.Need-set-up-requires
+set-up-requires c κs = search needs
+
+numbered-answer-requires : tie.Need-numbered-answer-requires
+numbered-answer-requires c κs = search needs
+
+returns : tie.Need-returns
+returns c = search needs
+
+pub set-up-spec : {M : Type 1} → statement M
+set-up-spec =
+    tie.close
+    (tie.spec
+    sized-requires
+    array-share-prefix-store
+    slice-aggregate-set-up
+    array-borrow-prefix-forward
+    slice-aggregate-set-up-2
+    array-borrow-prefix-reverse
+    slice-aggregate-set-up-3
+    array-borrow-prefix-rows
+    slice-aggregate-set-up-4
+    array-borrow-prefix-counts
+    slice-aggregate-set-up-5
+    set-up-requires
+    numbered-answer-requires
+    returns)
