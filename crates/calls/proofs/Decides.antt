@@ -20,9 +20,10 @@ use Rattle.tracker.specs.Track.{Tracked}
 use Rattle.tracker.specs.Choice.{choiceOf, estimateBy, followed, Within, trackedOf}
 use Rattle.tracker.proofs.Choices.{follow-choice, within-choice, within-choice-rows}
 use Rattle.engine.specs.declared.Move.{Move}
+use Rattle.engine.specs.declared.Move.the-variants.{Stayed}
 use Rattle.engine.specs.State.{State, stateOf, lengthsOf, forwardOf, reverseOf}
 use Rattle.engine.specs.Steps.{place, tracked, move, destination, settled, storeAfter, forwardAfter, reverseAfter, headAfter, passedAfter, rise}
-use Rattle.calls.specs.Settling.{Decided, Tables, tablesOf, relocated, Movable, Relocatable}
+use Rattle.calls.specs.Settling.{Decided, counted, Tables, tablesOf, relocated, Movable, Relocatable}
 use Rattle.engine.proofs.Facts.{Accepted, accepted, Steady, steady, row-sound, slot-sound, RowSound}
 use Rattle.engine.proofs.Moves.{Plan, rests, fills, evicts, plan, destination-in, destination-free}
 
@@ -57,16 +58,19 @@ module _ (S : Settings) (σ : State) (r : ℕ) (p : PhysicalRow) (way : Choice) 
   pub row-fits : r < 60000
   row-fits = omega (arith, A .reached .row-in, R .n-high)
 
-  pub place-fits : p .0 < 65500
+  place-fits : p .0 < 65500
   place-fits = rw (D .placed) (omega (arith, place-in, R .n-high, R .q-high))
 
-  pub acts-fit : σ .control .acts < 1360000
+  acts-fit : σ .control .acts < 1360000
   acts-fit = omega (arith, A .reached .more, R .l-high)
 
-  pub way-within : Within (length (σ .rows)) way × Within (length (σ .counts)) way
+  way-within : Within (length (σ .rows)) way × Within (length (σ .counts)) way
   way-within =
       let same : length (σ .rows) ≡ length (σ .counts) = X .rows ∙ sym (X .counts) in
       rw (D .chosen) (within-choice-rows (place S σ r) (σ .rows) (σ .counts) (σ .control .spill) same, within-choice (place S σ r) (σ .rows) (σ .counts) (σ .control .spill) same)
+
+  pub countable : (p .0 < 65536) × (σ .control .acts < 1360000) × Within (length (σ .rows)) way × Within (length (σ .counts)) way
+  countable = (omega (arith, place-fits), acts-fit, way-within .0, way-within .1)
 
   -- ---- the move
 
@@ -101,19 +105,15 @@ module _ (S : Settings) (σ : State) (r : ℕ) (p : PhysicalRow) (way : Choice) 
     pub relocatable : Relocatable S r (p .0) m (tablesOf (σ .store) (σ .forward) (σ .reverse) control)
     relocatable = rw (D .placed, D .decided) (by-plan (move S σ r) (plan S σ r))
 
-  -- ---- what is left: the tracker's part by `follow`, the rest by `relocate`
+  -- ---- what is left: the tracker's part and the control record between by `count`, the rest by `relocate`
 
-  module _ (rows counts : List ℕ) (spill : ℕ) (followed-is : trackedOf rows counts spill (estimateBy way) ≡ followed way (p .0) (σ .rows) (σ .counts) (σ .control .spill)) where
-    tracked-is : trackedOf rows counts spill (estimateBy way) ≡ tracked S σ r
+  module _ (rows counts : List ℕ) (between : Control) (followed-is : trackedOf rows counts (between .spill) (estimateBy way) ≡ followed way (p .0) (σ .rows) (σ .counts) (σ .control .spill)) (counted-is : between ≡ counted (between .spill) (σ .control)) where
+    tracked-is : trackedOf rows counts (between .spill) (estimateBy way) ≡ tracked S σ r
     tracked-is =
         followed-is
         ∙ ap (λ (x : PhysicalRow). followed way (x .0) (σ .rows) (σ .counts) (σ .control .spill)) (D .placed)
         ∙ ap (λ (x : Choice). followed x (place S σ r) (σ .rows) (σ .counts) (σ .control .spill)) (D .chosen)
         ∙ follow-choice (place S σ r) (σ .rows) (σ .counts) (σ .control .spill)
-
-    -- the control record between the two
-    abbrev pub counted : Control
-    counted = record { head = σ .control .head; passed = σ .control .passed; spill = spill; acts = σ .control .acts + 1 }
 
     -- a state of the step, by what the tracker leaves
     abbrev after : Tracked → State
@@ -121,9 +121,16 @@ module _ (S : Settings) (σ : State) (r : ℕ) (p : PhysicalRow) (way : Choice) 
         stateOf (storeAfter S (σ .store) (place S σ r) m) (forwardAfter (σ .forward) r m) (reverseAfter (σ .reverse) (forwardOf σ r) r m) (t .rows) (t .counts)
         (record { head = headAfter S (σ .control .head) m; passed = passedAfter (σ .control .passed) (rise σ r) m; spill = t .spill; acts = suc (σ .control .acts) })
 
-    pub settled-is : (store forward reverse : List ℕ) (control : Control)
-        → tablesOf store forward reverse control ≡ relocated S r (p .0) m (tablesOf (σ .store) (σ .forward) (σ .reverse) counted)
+    -- the tables after the move of what `count` left
+    abbrev gone : Control → Tables
+    gone control = relocated S r (p .0) m (tablesOf (σ .store) (σ .forward) (σ .reverse) control)
+
+    pub settled-is : (store forward reverse : List ℕ) (control : Control) → tablesOf store forward reverse control ≡ gone between
         → stateOf store forward reverse rows counts control ≡ settled S σ r (σ .store) m
     settled-is store forward reverse control e =
-        ap (λ (t : Tables). stateOf (t .store) (t .forward) (t .reverse) rows counts (t .control)) e
+        ap (λ (t : Tables). stateOf (t .store) (t .forward) (t .reverse) rows counts (t .control)) (e ∙ ap gone counted-is)
         ∙ rw (D .placed, add-one) (ap after tracked-is)
+
+    -- a row that stays is settled when its access is counted
+    pub stayed-is : m ≡ Stayed → stateOf (σ .store) (σ .forward) (σ .reverse) rows counts between ≡ settled S σ r (σ .store) m
+    stayed-is stays = settled-is (σ .store) (σ .forward) (σ .reverse) between (rw stays)

@@ -28,6 +28,10 @@ pub record Decided (S : Settings) (σ : State) (r : ℕ) (p : PhysicalRow) (way 
   pub chosen : way ≡ choiceOf (place S σ r) (σ .rows) (σ .counts) (σ .control .spill)
   pub decided : m ≡ move S σ r
 
+-- the control record when the access is counted; spill: what the tracker leaves
+abbrev pub counted : ℕ → Control → Control
+counted spill c = record { head = c .head; passed = c .passed; spill = spill; acts = c .acts + 1 }
+
 -- store, pointer tables and control record, which step 4 changes
 pub record Tables : Type 0 where
   pub store : List ℕ

@@ -5,6 +5,7 @@ ghost use mathlib.Core.List.{[]};
 ghost use Rattle.engine.specs.State.{stateOf};
 ghost use Rattle.engine.specs.Calls.{notedOf, accessedOf, setUp, tick, read, write, inspectPart};
 use engine::Access;
+use engine::Move;
 use geometry::Control;
 use geometry::Entry;
 use geometry::Lengths;
@@ -127,6 +128,16 @@ pub fn read(
             moved,
         } => {
             rows::read_row(store, s.w as usize, place.0 as usize, buffer);
+            if let Move::Stayed = moved {
+                let counted = settle::count(control, place, choice, rows, counts);
+                return Served {
+                    answer: Access::Done {
+                        place: place,
+                        moved: moved,
+                    },
+                    control: counted,
+                };
+            }
             let next = settle::settle(
                 control,
                 s,
@@ -179,6 +190,16 @@ pub fn write(
             moved,
         } => {
             rows::write_row(store, s.w as usize, place.0 as usize, column, bytes);
+            if let Move::Stayed = moved {
+                let counted = settle::count(control, place, choice, rows, counts);
+                return Served {
+                    answer: Access::Done {
+                        place: place,
+                        moved: moved,
+                    },
+                    control: counted,
+                };
+            }
             let next = settle::settle(
                 control,
                 s,

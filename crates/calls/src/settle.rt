@@ -6,9 +6,10 @@ ghost use lib.ListN.{length, getD, set};
 ghost use Rattle.geometry.specs.Numbering.{homeRow, slotRow};
 ghost use Rattle.geometry.specs.Entry.{empty};
 ghost use Rattle.rows.specs.Bytes.{copied};
+ghost use Rattle.tracker.specs.Choice.{estimateBy, followed, Within, trackedOf};
 ghost use Rattle.engine.specs.State.{stateOf};
 ghost use Rattle.engine.specs.Steps.{left, settled};
-ghost use Rattle.calls.specs.Settling.{tablesOf, relocated, Sendable, Movable, Relocatable, Decided};
+ghost use Rattle.calls.specs.Settling.{tablesOf, relocated, counted, Sendable, Movable, Relocatable, Decided};
 use engine::Move;
 use geometry::Control;
 use geometry::Entry;
@@ -97,6 +98,27 @@ fn relocate(
     }
 }
 
+// Step 2 of an accepted access, and `acts` of step 3: all that is left to do where the row stays.
+pub fn count(
+    control: Control,
+    place: PhysicalRow,
+    choice: Choice,
+    rows: &mut [u16],
+    counts: &mut [u32],
+) -> Control
+    requires { ⌜ (place .0 < 65536) × (control .acts < 1360000) × (Within (length (now rows)) choice) × (Within (length (now counts)) choice) ⌝ }
+    ensures followed { λ r. ⌜ trackedOf (now (rows .exit)) (now (counts .exit)) (r .spill) (estimateBy choice) ≡ followed choice (place .0) (now (rows .entry)) (now (counts .entry)) (control .spill) ⌝ }
+    ensures counted { λ r. ⌜ r ≡ counted (r .spill) control ⌝ }
+{
+    let spill = tracker::follow(choice, place.0 as u16, rows, counts, control.spill);
+    Control {
+        head: control.head,
+        passed: control.passed,
+        spill: spill,
+        acts: control.acts + 1,
+    }
+}
+
 // Steps 2 and 4 of an accepted access, and `acts` of step 3.
 pub fn settle(
     control: Control,
@@ -114,13 +136,7 @@ pub fn settle(
     requires { ⌜ Decided s (stateOf (now store) (now forward) (now reverse) (now rows) (now counts) control) row place choice moved ⌝ }
     ensures { λ r. ⌜ stateOf (now (store .exit)) (now (forward .exit)) (now (reverse .exit)) (now (rows .exit)) (now (counts .exit)) r ≡ settled s (stateOf (now (store .entry)) (now (forward .entry)) (now (reverse .entry)) (now (rows .entry)) (now (counts .entry)) control) row (now (store .entry)) moved ⌝ }
 {
-    let spill = tracker::follow(choice, place.0 as u16, rows, counts, control.spill);
-    let counted = Control {
-        head: control.head,
-        passed: control.passed,
-        spill: spill,
-        acts: control.acts + 1,
-    };
+    let counted = count(control, place, choice, rows, counts);
     relocate(
         counted,
         s,

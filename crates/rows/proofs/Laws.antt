@@ -48,13 +48,12 @@ module _ (d : List ℕ) (at : ℕ) (s : List ℕ) (n : ℕ) (fits : at + n ≤ l
 pub row-before : (w p q : ℕ) → p < q → p * w + w ≤ q * w
 row-before w p q h = omega (arith, suc-mul p w, mul-le-mul-right w h)
 
+pub rows-apart : (w p q : ℕ) → q ≢ p → (q * w + w ≤ p * w) ⊎ (p * w + w ≤ q * w)
+rows-apart w p q other = elim (lt? q p) [ inl before ↦ inl (row-before w q p before) | inr behind ↦ inr (row-before w p q (omega arith)) ]
+
 -- so each byte of a row q lies before the row p or behind it
 pub row-apart : (w p q c : ℕ) → q ≢ p → c < w → (q * w + c < p * w) ⊎ (p * w + w ≤ q * w + c)
-row-apart w p q c other h =
-    elim (lt? q p) [
-      | inl before ↦ inl (omega (arith, row-before w q p before))
-      | inr behind ↦ inr (omega (arith, row-before w p q (omega arith)))
-    ]
+row-apart w p q c other h = elim (rows-apart w p q other) [ inl before ↦ inl (omega arith) | inr behind ↦ inr (omega arith) ]
 
 pub length-rowBytes : (w rows : ℕ) (store : List ℕ) (p : ℕ) → length store ≡ rows * w → p < rows → length (rowBytes w store p) ≡ w
 unfolding rowBytes

@@ -1,4 +1,5 @@
--- A loop that writes one element each turn pastes them all; a paste into a part that is lent is a paste into the whole.
+-- A loop that writes one element or one block each turn pastes them all; what passes through a block is pasted; a paste into
+-- a part that is lent is a paste into the whole.
 -- Assumes nothing.
 use Prim.Native.Nat.{ℕ, _+_, _-_, _≤_, _<_}
 use mathlib.Core.Path.{_≡_, refl, sym, ap, _∙_}
@@ -8,9 +9,26 @@ use native.Mathlib.Omega.{arith}
 use native.Mathlib.Numerals.{add-one}
 use native.Mathlib.Nat.{add-assoc, zero-add}
 use lib.ListN.{length, getD, take, drop, set, length-set, length-drop, take-append-drop, drop-of-length-le}
-use lib.Seq.{paste, paste-zero, paste-suc, length-take-le, take-take, take-add, drop-drop, drop-append-le}
+use lib.Seq.{paste, paste-zero, paste-suc, length-paste, take-paste, drop-paste, length-take-le, getD-take, getD-drop, take-take, take-add, drop-drop, drop-append-le, ext-getD}
 use borrow.Rule.Slice.PartMut.{midOf, putMid}
 use Rattle.rows.proofs.Laws.{paste-out}
+
+-- only the first n elements of s count
+pub paste-alike : (d : List ℕ) (at : ℕ) (s t : List ℕ) (n : ℕ) → take n s ≡ take n t → paste d at s n ≡ paste d at t n
+paste-alike d at s t n e = ap (λ (m : List ℕ). take at d ++ m ++ drop (at + n) d) e
+
+-- behind the first i elements of s, the next k
+paste-further : (d : List ℕ) (at : ℕ) (s : List ℕ) (i k : ℕ) → at + i ≤ length d → i ≤ length s → paste (paste d at s i) (at + i) (drop i s) k ≡ paste d at s (i + k)
+paste-further d at s i k fits enough =
+    let l = paste d at s i in
+    let before : take (at + i) l ≡ take at d ++ take i s = take-paste d at s i (omega arith) enough in
+    let behind : drop (at + i + k) l ≡ drop (at + (i + k)) d =
+    sym (drop-drop k (at + i) l) ∙ ap (drop k) (drop-paste d at s i (omega arith) enough) ∙ drop-drop k (at + i) d
+    ∙ ap (λ (m : ℕ). drop m d) (add-assoc at i k)
+    in
+    rw (before, behind)
+    (ap (λ (m : List ℕ). m ++ drop (at + (i + k)) d)
+    (append-assoc (take at d) (take i s) (take k (drop i s)) ∙ ap (λ (m : List ℕ). take at d ++ m) (sym (take-add i k s))))
 
 -- l is d after i of the n turns that write the elements of s from index `at` on
 pub record Pasting (d : List ℕ) (at : ℕ) (s : List ℕ) (n : ℕ) (l : List ℕ) (i : ℕ) : Type 0 where
@@ -39,15 +57,59 @@ module _ (d : List ℕ) (at : ℕ) (s : List ℕ) (n : ℕ) where
           long = length-set l (at + i) x ∙ p .long;
         }
 
+    -- a block more: the next k elements
+    pub pasting-block : {l after : List ℕ} {i : ℕ} (block : List ℕ) (k : ℕ) → i + k ≤ n → take k block ≡ take k (drop i s) → after ≡ paste l (at + i) block k
+        → Pasting d at s n l i → Pasting d at s n after (i + k)
+    pasting-block {l} {after} {i} block k more same pasted p =
+        let value : after ≡ paste d at s (i + k) =
+        pasted ∙ paste-alike l (at + i) block (drop i s) k same ∙ ap (λ (t : List ℕ). paste t (at + i) (drop i s) k) (p .value)
+        ∙ paste-further d at s i k (omega arith) (omega arith)
+        in
+        record {
+          turns = more;
+          value = value;
+          long = ap length value ∙ length-paste d at s (i + k) (omega arith) (omega arith);
+        }
+
     -- what the loop does not write is still as it was
     pub pasting-out : {l : List ℕ} {i : ℕ} (k : ℕ) → (k < at) ⊎ (at + n ≤ k) → Pasting d at s n l i → getD l k 0 ≡ getD d k 0
     pasting-out {l} {i} k out p =
         ap (λ (t : List ℕ). getD t k 0) (p .value)
         ∙ paste-out d at s i (omega arith) (omega arith) k (elim out [ inl before ↦ inl before | inr behind ↦ inr (omega arith) ])
 
+    -- and so is a block of k elements from the m-th on
+    pub pasting-beside : {l : List ℕ} {i : ℕ} (m k : ℕ) → (m + k ≤ at) ⊎ (at + n ≤ m) → m + k ≤ length d → Pasting d at s n l i
+        → take k (drop m l) ≡ take k (drop m d)
+    pasting-beside {l} m k apart inside p =
+        let long = length-take-le k (drop m l) (omega (arith, length-drop m l, p .long)) in
+        let long₀ = length-take-le k (drop m d) (omega (arith, length-drop m d)) in
+        ext-getD 0 (take k (drop m l)) (take k (drop m d)) (long ∙ sym long₀) (λ j below.
+        let h : j < k = omega arith in
+        getD-take k (drop m l) j 0 h ∙ getD-drop m l j 0
+        ∙ pasting-out (m + j) (elim apart [ inl before ↦ inl (omega arith) | inr behind ↦ inr (omega arith) ]) p
+        ∙ sym (getD-take k (drop m d) j 0 h ∙ getD-drop m d j 0))
+
+-- the elements of d from `from` on are copied to `at` on, apart from them: after i of the n, the next k
+pub pasting-copy : (d : List ℕ) (from at n : ℕ) (k : ℕ) {l after : List ℕ} {i : ℕ} → from + n ≤ length d → at + n ≤ length d
+    → (from + n ≤ at) ⊎ (at + n ≤ from) → i + k ≤ n → after ≡ paste l (at + i) (drop (from + i) l) k
+    → Pasting d at (drop from d) n l i → Pasting d at (drop from d) n after (i + k)
+pasting-copy d from at n k {l} {after} {i} source target apart more copied p =
+    let enough : n ≤ length (drop from d) = omega (arith, length-drop from d) in
+    let beside : (from + i + k ≤ at) ⊎ (at + n ≤ from + i) = elim apart [ inl before ↦ inl (omega arith) | inr behind ↦ inr (omega arith) ] in
+    let same = pasting-beside d at (drop from d) n target enough (from + i) k beside (omega arith) p in
+    pasting-block d at (drop from d) n target enough (drop (from + i) l) k more (same ∙ ap (take k) (sym (drop-drop i from d))) copied p
+
 -- all of d is written
 pub paste-whole : (d s : List ℕ) (n : ℕ) → length d ≡ n → paste d 0 s n ≡ take n s
 paste-whole d s n h = simp (zero-add, drop-of-length-le d {i = n} (omega arith), append-nil)
+
+-- k elements that are written to a block of k, and from there into d
+pub paste-through : (d : List ℕ) (at : ℕ) (s : List ℕ) (k : ℕ) (block : List ℕ) {full after : List ℕ} → length block ≡ k → length s ≡ k
+    → full ≡ paste block 0 s (length s) → after ≡ paste d at full (length full) → after ≡ paste d at s k
+paste-through d at s k block {full} room enough filled put =
+    let same : full ≡ take k s = filled ∙ ap (λ (n : ℕ). paste block 0 s n) enough ∙ paste-whole block s k room in
+    let long : length full ≡ k = ap length same ∙ length-take-le k s (omega arith) in
+    put ∙ ap (λ (n : ℕ). paste d at full n) long ∙ paste-alike d at full s k (ap (take k) same ∙ take-take k k s (omega arith))
 
 -- the first k elements from the m-th on, and the others
 drop-through : (m k : ℕ) (xs : List ℕ) → m ≤ k → k ≤ length xs → drop m (take k xs) ++ drop k xs ≡ drop m xs

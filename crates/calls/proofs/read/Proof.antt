@@ -1,6 +1,7 @@
 -- `calls::read`: the verdict, the bytes, and what settling leaves. Assumes nothing.
 use mathlib.Core.Path.{refl, sym, _∙_}
 use Rattle.engine.specs.State.{stateOf}
+use Rattle.calls.proofs.Decides.{countable, stayed-is}
 use Rattle.calls.proofs.Serves.{decided, place-inside, read-refused, buffer-long, read-served}
 use borrow.Author.Needs.{needs}
 use Rattle.calls.proofs.read.Statement.{statement}
@@ -23,23 +24,24 @@ cast-read-row c = search needs
 
 read-row-requires : tie.Need-read-row-requires
 read-row-requires c κs =
-    let a =
-    c .before .before .before .before .before .before .before .before .before .before .before .before .before .before .before .before .before .before .before .args in
+    let a = c .before .before .before .before .before .before .before .before .before .before .before .before .before .before .before .before .before .before .before .args in
     let σ = stateOf (a .store .now) (a .forward .now) (a .reverse .now) (a .rows .now) (a .counts .now) (a .control) in
-    (buffer-long (a .s) σ (a .row) (c .before .before .before .before .before .before .before .before .before .before .before .before .read-span .result) (a .buffer .now) (c .before .before .before .before .before .before .before .before .before .before .before .before .read-span .ensures) (c .before .before .before .before .verdict2 .given .0 .0) (c .before .before .before .before .verdict2 .given .0 .1 .0) (c .before .before .before .before .verdict2 .given .0 .1 .1 .0) (sym (c .before .before .before .before .verdict2 .given .1) ∙ c .before .before .before .before .before .before .judge .ensures), place-inside (a .s) σ (a .row) (c .before .before .before .before .before .before .before .before .before .before .before .before .read-span .result) (c .before .before .before .before .verdict2 .given .0 .0) (c .before .before .before .before .verdict2 .given .0 .1 .0) (c .before .before .before .before .verdict2 .given .0 .1 .1 .0) (sym (c .before .before .before .before .verdict2 .given .1) ∙ c .before .before .before .before .before .before .judge .ensures))
+    let span = c .before .before .before .before .before .before .before .before .before .before .before .before .read-span in
+    let v = c .before .before .before .before .verdict2 .given in
+    let goes = sym (v .1) ∙ c .before .before .before .before .before .before .judge .ensures in
+    (buffer-long (a .s) σ (a .row) (span .result) (a .buffer .now) (span .ensures) (v .0 .0) (v .0 .1 .0) (v .0 .1 .1 .0) goes, place-inside (a .s) σ (a .row) (span .result) (v .0 .0) (v .0 .1 .0) (v .0 .1 .1 .0) goes)
 
-settle-requires : tie.Need-settle-requires
-settle-requires c κs =
-    let a =
-    c .before .before .before .before .before .before .before .before .before .before .before .before .before .before .before .before .before .before .before .before .before .before .before .before .before .before .before .args in
+enum-told : tie.Need-enum-told
+enum-told c = search needs
+
+count-requires : tie.Need-count-requires
+count-requires c κs =
+    let a = c .before .before .before .before .before .before .before .before .before .before .before .before .before .before .before .before .before .before .before .before .before .before .before .before .before .before .args in
     let σ = stateOf (a .store .now) (a .forward .now) (a .reverse .now) (a .rows .now) (a .counts .now) (a .control) in
-    decided (a .s) σ (a .row)
-    (c .before .before .before .before .before .before .before .before .before .before .before .before .before .before .before .before .before .before .before .before .read-span .result)
-    (c .before .before .before .before .before .before .before .before .before .before .before .before .verdict2 .given .0 .0)
-    (c .before .before .before .before .before .before .before .before .before .before .before .before .verdict2 .given .0 .1 .0)
-    (c .before .before .before .before .before .before .before .before .before .before .before .before .verdict2 .given .0 .1 .1 .0)
-    (sym (c .before .before .before .before .before .before .before .before .before .before .before .before .verdict2 .given .1) ∙ c .before .before .before .before .before .before .before .before .before .before .before .before .before .before .judge .ensures)
-    (a .store .now) refl
+    let span = c .before .before .before .before .before .before .before .before .before .before .before .before .before .before .before .before .before .before .before .read-span in
+    let v = c .before .before .before .before .before .before .before .before .before .before .before .verdict2 .given in
+    let goes = sym (v .1) ∙ c .before .before .before .before .before .before .before .before .before .before .before .before .before .judge .ensures in
+    countable (a .s) σ (a .row) (v .0 .0) (v .0 .1 .0) (v .0 .1 .1 .0) (decided (a .s) σ (a .row) (span .result) (v .0 .0) (v .0 .1 .0) (v .0 .1 .1 .0) goes (a .store .now) refl)
 
 same-length : tie.Need-same-length
 same-length c = search needs
@@ -56,16 +58,28 @@ same-length-4 c = search needs
 same-length-5 : tie.Need-same-length-5
 same-length-5 c = search needs
 
-returns : tie.Need-returns
-returns c =
-    let a = c .before .before .before .before .before .before .before .before .before .before .before .before .before .before .before .before .args in
-    let σ = stateOf (a .store .now) (a .forward .now) (a .reverse .now) (a .rows .now) (a .counts .now) (a .control) in
-    read-refused (a .s) σ (a .row) (c .before .before .before .before .before .before .before .before .before .read-span .result) (a .buffer .now)
-    (c .before .before .before .before .before .before .before .before .before .read-span .ensures) _
-    (sym (c .before .verdict .given .1) ∙ c .before .before .before .judge .ensures)
-
 same-length-6 : tie.Need-same-length-6
 same-length-6 c = search needs
+
+returns : tie.Need-returns
+returns c =
+    let a = c .before .before .before .before .before .before .before .before .before .before .before .before .before .before .before .before .before .before .before .before .before .before .before .before .before .before .before .before .before .before .before .args in
+    let σ = stateOf (a .store .now) (a .forward .now) (a .reverse .now) (a .rows .now) (a .counts .now) (a .control) in
+    let span = c .before .before .before .before .before .before .before .before .before .before .before .before .before .before .before .before .before .before .before .before .before .before .before .before .read-span in
+    let v = c .before .before .before .before .before .before .before .before .before .before .before .before .before .before .before .before .verdict2 .given in
+    let goes = sym (v .1) ∙ c .before .before .before .before .before .before .before .before .before .before .before .before .before .before .before .before .before .before .judge .ensures in
+    let counted = c .before .before .before .before .count in
+    read-served (a .s) σ (a .row) (span .result) (a .buffer .now) (span .ensures) (v .0 .0) (v .0 .1 .0) (v .0 .1 .1 .0) goes _ (c .before .before .before .before .before .before .before .before .before .before .before .read-row .ensures) _
+    (stayed-is (a .s) σ (a .row) (v .0 .0) (v .0 .1 .0) (v .0 .1 .1 .0) (decided (a .s) σ (a .row) (span .result) (v .0 .0) (v .0 .1 .0) (v .0 .1 .1 .0) goes (a .store .now) refl) _ _ (counted .result) (counted .ensures .0) (counted .ensures .1) (c .before .before .before .before .before .before .before .enum-told .given .1))
+
+settle-requires : tie.Need-settle-requires
+settle-requires c κs =
+    let a = c .before .before .before .before .before .before .before .before .before .before .before .before .before .before .before .before .before .before .before .before .before .before .before .before .before .before .before .before .args in
+    let σ = stateOf (a .store .now) (a .forward .now) (a .reverse .now) (a .rows .now) (a .counts .now) (a .control) in
+    let span = c .before .before .before .before .before .before .before .before .before .before .before .before .before .before .before .before .before .before .before .before .before .read-span in
+    let v = c .before .before .before .before .before .before .before .before .before .before .before .before .before .verdict2 .given in
+    let goes = sym (v .1) ∙ c .before .before .before .before .before .before .before .before .before .before .before .before .before .before .before .judge .ensures in
+    decided (a .s) σ (a .row) (span .result) (v .0 .0) (v .0 .1 .0) (v .0 .1 .1 .0) goes (a .store .now) refl
 
 same-length-7 : tie.Need-same-length-7
 same-length-7 c = search needs
@@ -84,20 +98,37 @@ same-length-11 c = search needs
 
 returns-2 : tie.Need-returns-2
 returns-2 c =
-    let a =
-    c .before .before .before .before .before .before .before .before .before .before .before .before .before .before .before .before .before .before .before .before .before .before .before .before .before .before .before .before .before .before .before .before .before .before .before .before .before .before .args in
+    let a = c .before .before .before .before .before .before .before .before .before .before .before .before .before .before .before .before .args in
     let σ = stateOf (a .store .now) (a .forward .now) (a .reverse .now) (a .rows .now) (a .counts .now) (a .control) in
-    read-served (a .s) σ (a .row)
-    (c .before .before .before .before .before .before .before .before .before .before .before .before .before .before .before .before .before .before .before .before .before .before .before .before .before .before .before .before .before .before .before .read-span .result)
-    (a .buffer .now)
-    (c .before .before .before .before .before .before .before .before .before .before .before .before .before .before .before .before .before .before .before .before .before .before .before .before .before .before .before .before .before .before .before .read-span .ensures)
-    (c .before .before .before .before .before .before .before .before .before .before .before .before .before .before .before .before .before .before .before .before .before .before .before .verdict2 .given .0 .0)
-    (c .before .before .before .before .before .before .before .before .before .before .before .before .before .before .before .before .before .before .before .before .before .before .before .verdict2 .given .0 .1 .0)
-    (c .before .before .before .before .before .before .before .before .before .before .before .before .before .before .before .before .before .before .before .before .before .before .before .verdict2 .given .0 .1 .1 .0)
-    (sym (c .before .before .before .before .before .before .before .before .before .before .before .before .before .before .before .before .before .before .before .before .before .before .before .verdict2 .given .1) ∙ c .before .before .before .before .before .before .before .before .before .before .before .before .before .before .before .before .before .before .before .before .before .before .before .before .before .judge .ensures)
-    _
-    (c .before .before .before .before .before .before .before .before .before .before .before .before .before .before .before .before .before .before .read-row .ensures)
-    _ (c .before .before .before .before .before .before .before .before .before .before .settle .ensures)
+    let span = c .before .before .before .before .before .before .before .before .before .read-span in
+    read-refused (a .s) σ (a .row) (span .result) (a .buffer .now) (span .ensures) _ (sym (c .before .verdict .given .1) ∙ c .before .before .before .judge .ensures)
+
+same-length-12 : tie.Need-same-length-12
+same-length-12 c = search needs
+
+same-length-13 : tie.Need-same-length-13
+same-length-13 c = search needs
+
+same-length-14 : tie.Need-same-length-14
+same-length-14 c = search needs
+
+same-length-15 : tie.Need-same-length-15
+same-length-15 c = search needs
+
+same-length-16 : tie.Need-same-length-16
+same-length-16 c = search needs
+
+same-length-17 : tie.Need-same-length-17
+same-length-17 c = search needs
+
+returns-3 : tie.Need-returns-3
+returns-3 c =
+    let a = c .before .before .before .before .before .before .before .before .before .before .before .before .before .before .before .before .before .before .before .before .before .before .before .before .before .before .before .before .before .before .before .before .before .before .before .before .before .before .before .args in
+    let σ = stateOf (a .store .now) (a .forward .now) (a .reverse .now) (a .rows .now) (a .counts .now) (a .control) in
+    let span = c .before .before .before .before .before .before .before .before .before .before .before .before .before .before .before .before .before .before .before .before .before .before .before .before .before .before .before .before .before .before .before .before .read-span in
+    let v = c .before .before .before .before .before .before .before .before .before .before .before .before .before .before .before .before .before .before .before .before .before .before .before .before .verdict2 .given in
+    let goes = sym (v .1) ∙ c .before .before .before .before .before .before .before .before .before .before .before .before .before .before .before .before .before .before .before .before .before .before .before .before .before .before .judge .ensures in
+    read-served (a .s) σ (a .row) (span .result) (a .buffer .now) (span .ensures) (v .0 .0) (v .0 .1 .0) (v .0 .1 .1 .0) goes _ (c .before .before .before .before .before .before .before .before .before .before .before .before .before .before .before .before .before .before .before .read-row .ensures) _ (c .before .before .before .before .before .before .before .before .before .before .settle .ensures)
 
 pub read-spec : {M : Type 1} → statement M
 read-spec =
@@ -109,17 +140,26 @@ read-spec =
     enum-known-verdict-2
     cast-read-row
     read-row-requires
-    settle-requires
+    enum-told
+    count-requires
     same-length
     same-length-2
     same-length-3
     same-length-4
     same-length-5
-    returns
     same-length-6
+    returns
+    settle-requires
     same-length-7
     same-length-8
     same-length-9
     same-length-10
     same-length-11
-    returns-2)
+    returns-2
+    same-length-12
+    same-length-13
+    same-length-14
+    same-length-15
+    same-length-16
+    same-length-17
+    returns-3)

@@ -1,13 +1,12 @@
--- `rows::copy_row` meets its contract: the loop reads no byte that it has written. Assumes nothing.
-use Prim.Native.Nat.{_+_, _-_, _*_, _≤_, _<_}
-use mathlib.Core.Path.{sym, _∙_}
+-- `rows::copy_row` meets its contract: each turn copies a block, and the rest comes last. Assumes nothing.
+use Prim.Native.Nat.{_+_, _-_, _*_, _≤_}
+use mathlib.Core.Logic.{_⊎_, inl, inr}
 use native.Mathlib.Omega.{arith}
-use lib.ListN.{length, drop, length-drop}
-use lib.Seq.{getD-drop}
+use lib.ListN.{drop}
 use borrow.Author.Needs.{needs}
 use Rattle.rows.specs.Bytes.{copied}
-use Rattle.rows.proofs.Laws.{row-apart}
-use Rattle.rows.proofs.Pastes.{Pasting, pasting-none, pasting-more, pasting-all, pasting-out}
+use Rattle.rows.proofs.Laws.{rows-apart}
+use Rattle.rows.proofs.Pastes.{Pasting, pasting-none, pasting-copy, pasting-all}
 use Rattle.rows.proofs.copy_row.Statement.{statement}
 use Rattle.rows.proofs.copy_row.Tie as tie
 
@@ -26,17 +25,17 @@ mul-to c = search needs
 loop-holds : tie.Need-loop-holds Inv-loop μ-loop
 loop-holds c = pasting-none _ _ _ _
 
-add-store : tie.Need-add-store Inv-loop μ-loop
-add-store c = search needs
+sub-loop : tie.Need-sub-loop Inv-loop μ-loop
+sub-loop c = search needs
 
-slice-read-store : tie.Need-slice-read-store Inv-loop μ-loop
-slice-read-store c = search needs
+add-copy-block : tie.Need-add-copy-block Inv-loop μ-loop
+add-copy-block c = search needs
 
-add-store-2 : tie.Need-add-store-2 Inv-loop μ-loop
-add-store-2 c = search needs
+add-copy-block-2 : tie.Need-add-copy-block-2 Inv-loop μ-loop
+add-copy-block-2 c = search needs
 
-slice-write-store : tie.Need-slice-write-store Inv-loop μ-loop
-slice-write-store c = search needs
+copy-block-requires : tie.Need-copy-block-requires Inv-loop μ-loop
+copy-block-requires c κs = search needs
 
 add-i : tie.Need-add-i Inv-loop μ-loop
 add-i c = search needs
@@ -46,28 +45,46 @@ loop-less c = search needs
 
 loop-again : tie.Need-loop-again Inv-loop μ-loop
 loop-again c =
-    let a = c .before .before .before .args in
-    let pre = c .before .before .before .pre in
-    let store = a .store .now in
+    let a = c .before .before .before .before .before .before .before .args in
+    let pre = c .before .before .before .before .before .before .before .pre in
+    pasting-copy (a .store .now) (a .source * a .w) (a .target * a .w) (a .w) 4096 (pre .1) (pre .2) (rows-apart (a .w) (a .target) (a .source) (pre .0))
+    (search needs) (c .before .before .copy-block .ensures) (c .before .before .before .before .before .loop .inv)
+
+add-copy-each : tie.Need-add-copy-each Inv-loop μ-loop
+add-copy-each c = search needs
+
+add-copy-each-2 : tie.Need-add-copy-each-2 Inv-loop μ-loop
+add-copy-each-2 c = search needs
+
+sub-copy-each : tie.Need-sub-copy-each Inv-loop μ-loop
+sub-copy-each c = search needs
+
+copy-each-requires : tie.Need-copy-each-requires Inv-loop μ-loop
+copy-each-requires c κs =
+    let a = c .before .before .before .before .args in
+    let i = c .before .before .loop .i in
     let from = a .source * a .w in
     let to = a .target * a .w in
-    let i = c .before .before .loop .i in
-    let inv = c .before .before .loop .inv in
-    let more : i < a .w = c .before .loop-test .taken in
-    let enough : a .w ≤ length (drop from store) = omega (arith, length-drop from store) in
-    let apart = row-apart (a .w) (a .target) (a .source) i (pre .0) more in
-    let old = pasting-out store to (drop from store) (a .w) (pre .2) enough (from + i) apart inv in
-    pasting-more store to (drop from store) (a .w) (pre .2) enough more (old ∙ sym (getD-drop from store i 0)) inv
+    let apart : (from + i + (a .w - i) ≤ to + i) ⊎ (to + i + (a .w - i) ≤ from + i) =
+    elim (rows-apart (a .w) (a .target) (a .source) (c .before .before .before .before .pre .0)) [ inl before ↦ inl (omega arith) | inr behind ↦ inr (omega arith) ]
+    in
+    (apart, omega arith, omega arith)
 
 same-length : tie.Need-same-length Inv-loop μ-loop
-same-length c = c .before .loop .inv .long
+same-length c = search needs
 
 returns : tie.Need-returns Inv-loop μ-loop
 unfolding copied
 returns c =
-    let a = c .before .before .args in
+    let a = c .before .before .before .before .before .before .before .args in
+    let pre = c .before .before .before .before .before .before .before .pre in
     let store = a .store .now in
-    pasting-all store (a .target * a .w) (drop (a .source * a .w) store) (a .w) (c .before .loop .inv) (search needs)
+    let from = a .source * a .w in
+    let to = a .target * a .w in
+    let inv = c .before .before .before .before .before .loop .inv in
+    let rest = a .w - c .before .before .before .before .before .loop .i in
+    let all = pasting-copy store from to (a .w) rest (pre .1) (pre .2) (rows-apart (a .w) (a .target) (a .source) (pre .0)) (omega (arith, inv .turns)) (c .before .before .copy-each .ensures) inv in
+    pasting-all store to (drop from store) (a .w) all (omega arith)
 
 pub copy-row-spec : {M : Type 1} → statement M
 copy-row-spec =
@@ -78,12 +95,16 @@ copy-row-spec =
     mul-from
     mul-to
     loop-holds
-    add-store
-    slice-read-store
-    add-store-2
-    slice-write-store
+    sub-loop
+    add-copy-block
+    add-copy-block-2
+    copy-block-requires
     add-i
     loop-less
     loop-again
+    add-copy-each
+    add-copy-each-2
+    sub-copy-each
+    copy-each-requires
     same-length
     returns)

@@ -1,46 +1,33 @@
--- `settle`: the tracker's way, then the move. Assumes nothing.
-use mathlib.Core.Path.{refl}
+-- `settle`: the access is counted, then the row moves. Assumes nothing.
+use mathlib.Core.Path.{ap}
 use native.Mathlib.Omega.{arith}
+use Rattle.geometry.specs.declared.Control.{Control}
 use Rattle.engine.specs.State.{stateOf}
-use Rattle.calls.proofs.Decides.{row-fits, place-fits, acts-fit, way-within, relocatable, settled-is}
+use Rattle.calls.proofs.Decides.{row-fits, countable, relocatable, settled-is}
 use borrow.Author.Needs.{needs}
 use Rattle.calls.proofs.settle.settle.Statement.{statement}
 use Rattle.calls.proofs.settle.settle.Tie as tie
 
-cast-follow : tie.Need-cast-follow
-cast-follow c =
-    let a = c .before .before .before .before .before .before .args in
+count-requires : tie.Need-count-requires
+count-requires c κs =
+    let a = c .before .before .before .before .before .before .before .args in
     let σ = stateOf (a .store .now) (a .forward .now) (a .reverse .now) (a .rows .now) (a .counts .now) (a .control) in
-    omega (arith, place-fits (a .s) σ (a .row) (a .place) (a .choice) (a .moved) (c .before .before .before .before .before .before .pre))
+    let D = c .before .before .before .before .before .before .before .pre in
+    countable (a .s) σ (a .row) (a .place) (a .choice) (a .moved) D
 
-follow-requires : tie.Need-follow-requires
-follow-requires c κs =
-    let a = c .before .before .before .before .before .before .before .before .args in
+cast-t17 : tie.Need-cast-t17
+cast-t17 c =
+    let a = c .before .before .before .before .before .before .before .before .before .before .before .before .args in
     let σ = stateOf (a .store .now) (a .forward .now) (a .reverse .now) (a .rows .now) (a .counts .now) (a .control) in
-    way-within (a .s) σ (a .row) (a .place) (a .choice) (a .moved) (c .before .before .before .before .before .before .before .before .pre)
-
-add-t19 : tie.Need-add-t19
-add-t19 c =
-    let a = c .before .before .before .before .before .before .before .before .before .before .before .before .before .before .args in
-    let σ = stateOf (a .store .now) (a .forward .now) (a .reverse .now) (a .rows .now) (a .counts .now) (a .control) in
-    omega
-    (arith, acts-fit (a .s) σ (a .row) (a .place) (a .choice) (a .moved) (c .before .before .before .before .before .before .before .before .before .before .before .before .before .before .pre))
-
-cast-t14 : tie.Need-cast-t14
-cast-t14 c =
-    let a = c .before .before .before .before .before .before .before .before .before .before .before .before .before .before .args in
-    let σ = stateOf (a .store .now) (a .forward .now) (a .reverse .now) (a .rows .now) (a .counts .now) (a .control) in
-    omega
-    (arith, row-fits (a .s) σ (a .row) (a .place) (a .choice) (a .moved) (c .before .before .before .before .before .before .before .before .before .before .before .before .before .before .pre))
+    let D = c .before .before .before .before .before .before .before .before .before .before .before .before .pre in
+    omega (arith, row-fits (a .s) σ (a .row) (a .place) (a .choice) (a .moved) D)
 
 relocate-requires : tie.Need-relocate-requires
 relocate-requires c κs =
-    let a =
-    c .before .before .before .before .before .before .before .before .before .before .before .before .before .before .before .before .before .args in
+    let a = c .before .before .before .before .before .before .before .before .before .before .before .before .before .before .before .args in
     let σ = stateOf (a .store .now) (a .forward .now) (a .reverse .now) (a .rows .now) (a .counts .now) (a .control) in
-    relocatable (a .s) σ (a .row) (a .place) (a .choice) (a .moved)
-    (c .before .before .before .before .before .before .before .before .before .before .before .before .before .before .before .before .before .pre) _
-    refl
+    let D = c .before .before .before .before .before .before .before .before .before .before .before .before .before .before .before .pre in
+    relocatable (a .s) σ (a .row) (a .place) (a .choice) (a .moved) D _ (ap (λ (x : Control). x .passed) (c .before .before .before .before .before .before .before .count .ensures .1))
 
 same-length : tie.Need-same-length
 same-length c = search needs
@@ -59,25 +46,18 @@ same-length-5 c = search needs
 
 returns : tie.Need-returns
 returns c =
-    let a =
-    c .before .before .before .before .before .before .before .before .before .before .before .before .before .before .before .before .before .before .before .before .before .before .before .before .args in
+    let a = c .before .before .before .before .before .before .before .before .before .before .before .before .before .before .before .before .before .before .before .before .before .before .args in
     let σ = stateOf (a .store .now) (a .forward .now) (a .reverse .now) (a .rows .now) (a .counts .now) (a .control) in
-    settled-is (a .s) σ (a .row) (a .place) (a .choice) (a .moved)
-    (c .before .before .before .before .before .before .before .before .before .before .before .before .before .before .before .before .before .before .before .before .before .before .before .before .pre)
-    (c .before .before .before .before .before .before .before .before .before .before .before .before .before .before .before .follow .last .1 .1 .0)
-    (c .before .before .before .before .before .before .before .before .before .before .before .before .before .before .before .follow .last .1 .1 .1 .0)
-    (c .before .before .before .before .before .before .before .before .before .before .before .before .before .before .before .follow .result)
-    (c .before .before .before .before .before .before .before .before .before .before .before .before .before .before .before .follow .ensures) _ _ _
-    (c .before .before .before .before .before .before .relocate .result) (c .before .before .before .before .before .before .relocate .ensures)
+    let D = c .before .before .before .before .before .before .before .before .before .before .before .before .before .before .before .before .before .before .before .before .before .before .pre in
+    let counted = c .before .before .before .before .before .before .before .before .before .before .before .before .before .before .count in
+    settled-is (a .s) σ (a .row) (a .place) (a .choice) (a .moved) D _ _ (counted .result) (counted .ensures .0) (counted .ensures .1) _ _ _ (c .before .before .before .before .before .before .relocate .result) (c .before .before .before .before .before .before .relocate .ensures)
 
 pub settle-spec : {M : Type 1} → statement M
 settle-spec =
     tie.close
     (tie.spec
-    cast-follow
-    follow-requires
-    add-t19
-    cast-t14
+    count-requires
+    cast-t17
     relocate-requires
     same-length
     same-length-2
