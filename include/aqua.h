@@ -1,6 +1,6 @@
 /* AQUA row quarantine engine, one rank: the calls for firmware in C.
  *
- * Link target/staticlib/librank.a, which `rt staticlib rank` proves and writes. Every call takes any argument and answers
+ * Link target/staticlib/librank.a, which `rt staticlib rank` proves and writes; it needs memmove and memset. Every call takes any argument and answers
  * by a number, 0 where it is accepted. A call that is refused leaves the control record, everything lent and the read
  * buffer as they were.
  *
