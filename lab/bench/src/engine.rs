@@ -2,7 +2,8 @@
 //! open, so that the idiomatic and the tuned engine differ in nothing else. It has the calls that the streams make.
 
 use crate::scan::Scan;
-use model::memory::{Answer, Control, Memory, Settings, NONE};
+use aqua::Lent;
+use model::memory::{Answer, Control, Settings, NONE};
 
 const EMPTY: u16 = 65_535;
 
@@ -36,7 +37,7 @@ fn judge_settings(s: &Settings) -> Result<(), u32> {
     Ok(())
 }
 
-fn judge_lengths(s: &Settings, m: &Memory) -> Result<(), u32> {
+fn judge_lengths(s: &Settings, m: &Lent) -> Result<(), u32> {
     let (n, q, w, k) = (s.n as usize, s.q as usize, s.w as usize, s.k as usize);
     let fit = m.store.len() == (n + q) * w
         && m.forward.len() == n
@@ -50,10 +51,10 @@ fn judge_lengths(s: &Settings, m: &Memory) -> Result<(), u32> {
     }
 }
 
-fn judge_control<S: Scan>(s: &Settings, m: &Memory) -> Result<(), u32> {
-    let Control { head, passed, spill, acts } = m.control;
+fn judge_control<S: Scan>(s: &Settings, m: &Lent) -> Result<(), u32> {
+    let Control { head, passed, spill, acts } = *m.control;
     let unsound = head >= s.q || passed > s.q || acts > s.l || spill > acts || spill >= s.a;
-    if unsound || S::any_above(&m.counts, acts) {
+    if unsound || S::any_above(m.counts, acts) {
         Err(4)
     } else {
         Ok(())
@@ -61,18 +62,18 @@ fn judge_control<S: Scan>(s: &Settings, m: &Memory) -> Result<(), u32> {
 }
 
 /// Step 2, without a change.
-fn choose<S: Scan>(m: &Memory, place: usize) -> Way {
-    if let Some(entry) = S::row(&m.rows, place as u16) {
+fn choose<S: Scan>(m: &Lent, place: usize) -> Way {
+    if let Some(entry) = S::row(m.rows, place as u16) {
         return Way::Raise(entry, m.counts[entry] + 1);
     }
-    match S::count(&m.counts, m.control.spill) {
+    match S::count(m.counts, m.control.spill) {
         Some(entry) => Way::Take(entry, m.control.spill + 1),
         None => Way::Spill,
     }
 }
 
 /// Where the row goes, with 9 and the destination's 7 judged.
-fn plan_move(s: &Settings, m: &Memory, slot: Option<usize>) -> Result<Move, u32> {
+fn plan_move(s: &Settings, m: &Lent, slot: Option<usize>) -> Result<Move, u32> {
     let head = m.control.head as usize;
     let (to, rise) = if slot == Some(head) { ((head + 1) % s.q as usize, 2) } else { (head, 1) };
     if m.control.passed + rise > s.q {
@@ -86,7 +87,7 @@ fn plan_move(s: &Settings, m: &Memory, slot: Option<usize>) -> Result<Move, u32>
     Ok(Move { to, rise, sent_home })
 }
 
-fn accept(s: &Settings, m: &mut Memory, row: usize, slot: Option<usize>, place: usize, moved: &Option<Move>) {
+fn accept(s: &Settings, m: &mut Lent, row: usize, slot: Option<usize>, place: usize, moved: &Option<Move>) {
     m.control.acts += 1;
     let Some(Move { to, rise, sent_home }) = moved else { return };
     let (n, w) = (s.n as usize, s.w as usize);
@@ -105,7 +106,7 @@ fn accept(s: &Settings, m: &mut Memory, row: usize, slot: Option<usize>, place: 
     m.control.passed += rise;
 }
 
-fn access<S: Scan>(s: &Settings, m: &mut Memory, row: u32, buffer: &mut [u8]) -> Result<Answer, u32> {
+fn access<S: Scan>(s: &Settings, m: &mut Lent, row: u32, buffer: &mut [u8]) -> Result<Answer, u32> {
     judge_settings(s)?;
     judge_lengths(s, m)?;
     judge_control::<S>(s, m)?;
@@ -147,26 +148,32 @@ fn access<S: Scan>(s: &Settings, m: &mut Memory, row: u32, buffer: &mut [u8]) ->
     Ok(Answer { place: place as u64, slot, row: sent_home, ..Answer::bare(0) })
 }
 
-/// Not inlined: a call costs a call, as it does with the library.
+/// It takes what the library's call takes, each slice by itself, and is not inlined: a call costs a call, as it does with
+/// the library.
 #[inline(never)]
-pub fn read<S: Scan>(s: &Settings, m: &mut Memory, row: u32, buffer: &mut [u8]) -> Answer {
-    access::<S>(s, m, row, buffer).unwrap_or_else(Answer::bare)
+#[allow(clippy::too_many_arguments)]
+pub fn read<S: Scan>(
+    control: &mut Control, s: Settings, row: u32, buffer: &mut [u8], store: &mut [u8], forward: &mut [u16],
+    reverse: &mut [u16], rows: &mut [u16], counts: &mut [u32],
+) -> Answer {
+    let mut m = Lent { control, store, forward, reverse, rows, counts };
+    access::<S>(&s, &mut m, row, buffer).unwrap_or_else(Answer::bare)
 }
 
 #[inline(never)]
-pub fn tick<S: Scan>(s: &Settings, m: &mut Memory) -> u32 {
+pub fn tick<S: Scan>(s: &Settings, m: &mut Lent) -> u32 {
     let judged = judge_settings(s).and_then(|()| judge_lengths(s, m)).and_then(|()| judge_control::<S>(s, m));
     if let Err(number) = judged {
         return number;
     }
     m.rows.fill(EMPTY);
     m.counts.fill(0);
-    m.control = Control { head: m.control.head, ..Control::default() };
+    *m.control = Control { head: m.control.head, ..Control::default() };
     0
 }
 
 #[inline(never)]
-pub fn set_up(s: &Settings, m: &mut Memory) -> u32 {
+pub fn set_up(s: &Settings, m: &mut Lent) -> u32 {
     if let Err(number) = judge_settings(s).and_then(|()| judge_lengths(s, m)) {
         return number;
     }
@@ -174,6 +181,6 @@ pub fn set_up(s: &Settings, m: &mut Memory) -> u32 {
     m.reverse.fill(EMPTY);
     m.rows.fill(EMPTY);
     m.counts.fill(0);
-    m.control = Control::default();
+    *m.control = Control::default();
     0
 }

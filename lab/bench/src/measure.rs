@@ -4,6 +4,7 @@
 use crate::engine;
 use crate::scan::{Blocks, Plain};
 use crate::stream::{Kind, Stream, TICK};
+use aqua::Lent;
 use model::memory::{Answer, Memory, Settings, NONE};
 use std::fmt;
 use std::time::{Duration, Instant};
@@ -39,16 +40,17 @@ struct Tuned;
 
 impl Engine for Tuned {
     fn set_up(s: &Settings, m: &mut Memory) -> u32 {
-        engine::set_up(s, m)
+        engine::set_up(s, &mut aqua::lend(m))
     }
 
     #[inline]
     fn read(s: &Settings, m: &mut Memory, row: u32, buffer: &mut [u8]) -> Answer {
-        engine::read::<Blocks>(s, m, row, buffer)
+        let Lent { control, store, forward, reverse, rows, counts } = aqua::lend(m);
+        engine::read::<Blocks>(control, *s, row, buffer, store, forward, reverse, rows, counts)
     }
 
     fn tick(s: &Settings, m: &mut Memory) -> u32 {
-        engine::tick::<Blocks>(s, m)
+        engine::tick::<Blocks>(s, &mut aqua::lend(m))
     }
 }
 
@@ -56,16 +58,17 @@ struct Idiomatic;
 
 impl Engine for Idiomatic {
     fn set_up(s: &Settings, m: &mut Memory) -> u32 {
-        engine::set_up(s, m)
+        engine::set_up(s, &mut aqua::lend(m))
     }
 
     #[inline]
     fn read(s: &Settings, m: &mut Memory, row: u32, buffer: &mut [u8]) -> Answer {
-        engine::read::<Plain>(s, m, row, buffer)
+        let Lent { control, store, forward, reverse, rows, counts } = aqua::lend(m);
+        engine::read::<Plain>(control, *s, row, buffer, store, forward, reverse, rows, counts)
     }
 
     fn tick(s: &Settings, m: &mut Memory) -> u32 {
-        engine::tick::<Plain>(s, m)
+        engine::tick::<Plain>(s, &mut aqua::lend(m))
     }
 }
 
