@@ -38,6 +38,7 @@ playedForm (some trace) = played (trace .settings) (trace .steps)
 unfoldable pub replayed : List ℕ → List ℕ
 replayed text = playedForm (traceIn text)
 
--- as much of it as a page holds: a page of 105 × (4,096 + 1) bytes holds what any file prints, and a shorter one is left alone
+-- all of it on a page of 105 × (4,096 + 1) bytes or more, which holds what any file prints; nothing on a shorter one.
+-- What the page has behind the bytes printed is left free
 unfoldable pub printedOn : ℕ → List ℕ → List ℕ
 printedOn room text = cond (leb 430185 room) (replayed text) []

@@ -33,7 +33,7 @@ sections xs = cond (hasSections xs) (some (record { settings = settingsOf xs; st
 unfoldable pub traceIn : List ℕ → Option Recorded
 traceIn text = cond (leb (length text) 65536 && readable text) (sections (numbers text)) none
 
--- read into a list of `room` places: in 4,104 there is room for every trace, and with fewer nothing is read
+-- read into a list of `room` places: in 4,104 there is room for every trace, and with fewer the file is refused
 unfoldable pub traceWithin : ℕ → List ℕ → Option Recorded
 traceWithin room text = cond (leb 4104 room) (traceIn text) none
 
