@@ -1,13 +1,13 @@
 -- What was decided of an accepted access is what the code needs to settle it, and settling leaves what the steps say.
 -- Assumes nothing.
-use Prim.Native.Nat.{ℕ, suc, _+_, _*_, _%_, _<_, _≤_}
+use Prim.Native.Nat.{ℕ, suc, _+_, _<_}
 use native.Mathlib.Numerals.{add-one}
 use native.Mathlib.Omega.{arith}
-use mathlib.Core.Path.{_≡_, refl, sym, ap, _∙_}
-use mathlib.Core.Logic.{_⊎_, inl, inr, _≢_}
+use mathlib.Core.Path.{_≡_, sym, ap, _∙_}
+use mathlib.Core.Logic.{_⊎_, inl, inr}
 use mathlib.Core.Bool.{true}
 use mathlib.Core.List.{List}
-use lib.ListN.{length, getD}
+use lib.ListN.{length}
 use borrow.Author.Tests.{eq-eqb, ne-eqb}
 use Rattle.geometry.specs.declared.Settings.{Settings}
 use Rattle.geometry.specs.declared.Control.{Control}
@@ -21,13 +21,21 @@ use Rattle.tracker.specs.Choice.{choiceOf, estimateBy, followed, Within, tracke
 use Rattle.tracker.proofs.Choices.{follow-choice, within-choice, within-choice-rows}
 use Rattle.engine.specs.declared.Move.{Move}
 use Rattle.engine.specs.declared.Move.the-variants.{Stayed}
-use Rattle.engine.specs.State.{State, stateOf, lengthsOf, forwardOf, reverseOf}
+use Rattle.engine.specs.State.{State, stateOf, lengthsOf, forwardOf}
 use Rattle.engine.specs.Steps.{place, tracked, move, destination, settled, storeAfter, forwardAfter, reverseAfter, headAfter, passedAfter, rise}
-use Rattle.calls.specs.Settling.{Decided, counted, Tables, tablesOf, relocated, Movable, Relocatable}
+use Rattle.engine.specs.Ladder.{accessNumber}
+use Rattle.calls.specs.Settling.{counted, Tables, tablesOf, relocated, Movable, Relocatable}
 use Rattle.engine.proofs.Facts.{Accepted, accepted, Steady, steady, row-sound, slot-sound, RowSound}
 use Rattle.engine.proofs.Moves.{Plan, rests, fills, evicts, plan, destination-in, destination-free}
 
-module _ (S : Settings) (σ : State) (r : ℕ) (p : PhysicalRow) (way : Choice) (m : Move) (D : Decided S σ r p way m) where
+-- an accepted access with what was decided of it
+pub record Decided (S : Settings) (σ : State) (r : ℕ) (p : PhysicalRow) (way : Choice) (m : Move) : Type 0 where
+  pub accepted : accessNumber S σ r true ≡ 0
+  pub placed : p ≡ physical (place S σ r)
+  pub chosen : way ≡ choiceOf (place S σ r) (σ .rows) (σ .counts) (σ .control .spill)
+  pub decided : m ≡ move S σ r
+
+module _ {S : Settings} {σ : State} {r : ℕ} {p : PhysicalRow} {way : Choice} {m : Move} (D : Decided S σ r p way m) where
   A : Accepted S σ r true
   A = accepted S σ r true (D .accepted)
 

@@ -1,3 +1,4 @@
 pub mod Settles
 pub mod Decides
 pub mod Serves
+pub mod Passes

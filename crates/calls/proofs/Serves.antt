@@ -3,11 +3,11 @@ use Prim.Native.Nat.{ℕ, suc, _+_, _*_, _<_, _≤_}
 use native.Mathlib.Nat.{suc-inj, suc-ne-zero}
 use native.Mathlib.Omega.{arith}
 use mathlib.Core.Path.{_≡_, refl, sym, ap, _∙_}
-use mathlib.Core.Logic.{_⊎_, inl, inr, _≢_}
+use mathlib.Core.Logic.{inl, inr, _≢_}
 use mathlib.Core.Bool.{Bool, true, false}
 use mathlib.Core.List.{List, []}
 use lib.Dec.{eqb}
-use lib.ListN.{length, getD, replicate}
+use lib.ListN.{length, replicate}
 use borrow.Author.Tests.{eq-eqb, ne-eqb, eqb-true, eqb-false, leb-true, ltb-true}
 use Rattle.geometry.specs.declared.Settings.{Settings}
 use Rattle.geometry.specs.declared.Control.{Control}
@@ -18,7 +18,6 @@ use Rattle.geometry.proofs.Cases.{split}
 use Rattle.geometry.proofs.Facts.{Ranges, Exact, ranges-facts, lengths-facts, lengths-hold}
 use Rattle.tracker.specs.declared.Choice.{Choice}
 use Rattle.tracker.specs.Choice.{choiceOf}
-use Rattle.tracker.proofs.Sums.{getD-any}
 use Rattle.rows.specs.Bytes.{rowBytes, written}
 use Rattle.rows.proofs.Laws.{row-before, length-written}
 use Rattle.engine.specs.declared.Move.{Move}
@@ -26,12 +25,13 @@ use Rattle.engine.specs.declared.Access.the-variants.{Refused, Done}
 use Rattle.ladder.specs.declared.Verdict.{Verdict}
 use Rattle.ladder.specs.declared.Verdict.the-variants.{Stop, Go}
 use Rattle.engine.specs.State.{State, stateOf, lengthsOf, forwardOf}
-use Rattle.engine.specs.Steps.{placeBy, place, move, settled}
+use Rattle.engine.specs.Steps.{place, move, settled}
 use Rattle.engine.specs.Ladder.{pointersHold, setUpNumber, tickNumber, inspectNumber, accessNumber, readSpan, writeSpan}
 use Rattle.engine.specs.Calls.{notedOf, noted, cleared, setUp, ticked, tick, accessedOf, answered, read, write, inspectPart}
-use Rattle.ladder.specs.Stages.{verdictOf}
-use Rattle.calls.specs.Settling.{Decided}
-use Rattle.engine.proofs.Facts.{Fit, fit, tick-facts, Accepted, accepted, accepts, row-sound}
+use Rattle.ladder.proofs.Stages.{verdictOf}
+use Rattle.calls.specs.declared.Served.{Served}
+use Rattle.calls.proofs.Decides.{Decided}
+use Rattle.engine.proofs.Facts.{fit, tick-facts, Accepted, accepted, accepts, row-sound}
 use Rattle.engine.proofs.Rungs.{pass, held}
 
 -- the place of a row with sound pointers is a row of the store
@@ -86,19 +86,17 @@ module _ (S : Settings) (σ : State) (x : ℕ) where
 -- the number in a verdict, and one more; 0 for none
 code : Verdict → ℕ
 code (Stop x) = suc x
-code (Go p way m) = 0
-
-placeIn : Verdict → PhysicalRow
-placeIn (Stop x) = physical 0
-placeIn (Go p way m) = p
-
-wayIn : Choice → Verdict → Choice
-wayIn other (Stop x) = other
-wayIn other (Go p way m) = way
+code (Go m) = 0
 
 moveIn : Move → Verdict → Move
 moveIn other (Stop x) = other
-moveIn other (Go p way m) = m
+moveIn other (Go m) = m
+
+-- an access to serve: the place and the tracker's way that were looked up, and the verdict
+pub record Granted (S : Settings) (σ : State) (r : ℕ) (span : Bool) (p : PhysicalRow) (way : Choice) (m : Move) : Type 0 where
+  pub placed : p ≡ physical (place S σ r)
+  pub chosen : way ≡ choiceOf (place S σ r) (σ .rows) (σ .counts) (σ .control .spill)
+  pub goes : Go m ≡ verdictOf S σ r span
 
 module _ (S : Settings) (σ : State) (r : ℕ) (span : Bool) where
   -- a verdict to refuse
@@ -112,88 +110,84 @@ module _ (S : Settings) (σ : State) (r : ℕ) (span : Bool) where
             (same, λ z. eqb-false (accessNumber S σ r span) 0 k (sym same ∙ z))
       ]
 
-  -- a verdict to serve
-  module _ (p : PhysicalRow) (way : Choice) (m : Move) (goes : Go p way m ≡ verdictOf S σ r span) where
-    pub number-0 : accessNumber S σ r span ≡ 0
-    unfolding verdictOf code
-    number-0 =
-        elim (split (eqb (accessNumber S σ r span) 0)) [
-          | inl k ↦ eqb-true (accessNumber S σ r span) 0 k
-          | inr k ↦ absurd (suc-ne-zero (accessNumber S σ r span) (sym (ap code (rw k at goes))))
-        ]
-
-    parts : Go p way m ≡ Go (physical (place S σ r)) (choiceOf (place S σ r) (σ .rows) (σ .counts) (σ .control .spill)) (move S σ r)
-    unfolding verdictOf
-    parts = rw (eq-eqb (accessNumber S σ r span) 0 number-0) at goes
-
-    accepted-any : Accepted S σ r span
-    accepted-any = accepted S σ r span number-0
-
-    -- the store may have been written in the row's place since
-    pub decided : (store : List ℕ) → length store ≡ length (σ .store) → Decided S (stateOf store (σ .forward) (σ .reverse) (σ .rows) (σ .counts) (σ .control)) r p way m
-    unfolding placeIn wayIn moveIn move
-    decided store long =
-        let A : Accepted S σ r span = accepted-any in
-        let X = lengths-facts S (lengthsOf σ) (A .reached .fit .lengths) in
-        let σ′ : State = stateOf store (σ .forward) (σ .reverse) (σ .rows) (σ .counts) (σ .control) in
-        record {
-          accepted = accepts S σ′ r true
-              (record {
-                reached = record {
-                  fit = record {
-                    ranges = A .reached .fit .ranges;
-                    limit = A .reached .fit .limit;
-                    lengths = lengths-hold S (lengthsOf σ′)
-                        (record { store = long ∙ X .store; forward = X .forward; reverse = X .reverse; rows = X .rows; counts = X .counts });
-                  };
-                  control = A .reached .control;
-                  row-in = A .reached .row-in;
-                  spans = refl;
-                  pointers = A .reached .pointers;
-                  more = A .reached .more;
-                };
-                room = A .room;
-                target = A .target;
-              });
-          placed = ap placeIn parts;
-          chosen = ap (wayIn way) parts;
-          decided = ap (moveIn m) parts;
-        }
-
-    pub placed : p ≡ physical (place S σ r)
-    unfolding placeIn
-    placed = ap placeIn parts
-
-    pub place-below : p .0 < S .n + S .q
-    place-below =
-        let A : Accepted S σ r span = accepted-any in
-        let R = ranges-facts S (A .reached .fit .ranges) in
-        rw placed (place-under S σ r R (A .reached .row-in) (A .reached .pointers))
-
-    -- the row's place lies in the store
-    pub place-inside : p .0 * S .w + S .w ≤ length (σ .store)
-    place-inside =
-        let X = lengths-facts S (lengthsOf σ) (accepted-any .reached .fit .lengths) in
-        omega (arith, row-before (S .w) (p .0) (S .n + S .q) place-below, X .store)
-
-    pub span-true : span ≡ true
-    span-true = accepted-any .reached .spans
-
-    -- what it answers and leaves; store: after step 3
-    pub served : (store filled buffer : List ℕ) (after : State) → after ≡ settled S (stateOf store (σ .forward) (σ .reverse) (σ .rows) (σ .counts) (σ .control)) r store m
-        → accessedOf after (Done p m) filled ≡ answered S σ r (accessNumber S σ r span) store filled buffer
-    unfolding answered moveIn
-    served store filled buffer after e =
-        let ep : p ≡ physical (place S σ r) = placed in
-        let em : m ≡ move S σ r = ap (moveIn m) parts in
-        rw (eq-eqb (accessNumber S σ r span) 0 number-0, e, ep, em)
-
   pub turned-away : (x : ℕ) (store filled buffer : List ℕ) → Stop x ≡ verdictOf S σ r span → accessedOf σ (Refused x) buffer ≡ answered S σ r (accessNumber S σ r span) store filled buffer
   unfolding answered
   turned-away x store filled buffer e =
       let s = stopped x e in
       let n : eqb (accessNumber S σ r span) 0 ≡ false = ne-eqb (accessNumber S σ r span) 0 (λ z. s .1 (s .0 ∙ z)) in
       rw (n, s .0)
+
+-- an access that is served
+module _ {S : Settings} {σ : State} {r : ℕ} {span : Bool} {p : PhysicalRow} {way : Choice} {m : Move} (G : Granted S σ r span p way m) where
+  pub number-0 : accessNumber S σ r span ≡ 0
+  unfolding verdictOf code
+  number-0 =
+      elim (split (eqb (accessNumber S σ r span) 0)) [
+        | inl k ↦ eqb-true (accessNumber S σ r span) 0 k
+        | inr k ↦ absurd (suc-ne-zero (accessNumber S σ r span) (sym (ap code (rw k at (G .goes)))))
+      ]
+
+  moved-is : m ≡ move S σ r
+  unfolding verdictOf moveIn move
+  moved-is = ap (moveIn m) (rw (eq-eqb (accessNumber S σ r span) 0 number-0) at (G .goes))
+
+  accepted-any : Accepted S σ r span
+  accepted-any = accepted S σ r span number-0
+
+  -- the store may have been written in the row's place since
+  pub decided : (store : List ℕ) → length store ≡ length (σ .store) → Decided S (stateOf store (σ .forward) (σ .reverse) (σ .rows) (σ .counts) (σ .control)) r p way m
+  unfolding move
+  decided store long =
+      let A : Accepted S σ r span = accepted-any in
+      let X = lengths-facts S (lengthsOf σ) (A .reached .fit .lengths) in
+      let σ′ : State = stateOf store (σ .forward) (σ .reverse) (σ .rows) (σ .counts) (σ .control) in
+      record {
+        accepted = accepts S σ′ r true
+            (record {
+              reached = record {
+                fit = record {
+                  ranges = A .reached .fit .ranges;
+                  limit = A .reached .fit .limit;
+                  lengths = lengths-hold S (lengthsOf σ′)
+                      (record { store = long ∙ X .store; forward = X .forward; reverse = X .reverse; rows = X .rows; counts = X .counts });
+                };
+                control = A .reached .control;
+                row-in = A .reached .row-in;
+                spans = refl;
+                pointers = A .reached .pointers;
+                more = A .reached .more;
+              };
+              room = A .room;
+              target = A .target;
+            });
+        placed = G .placed;
+        chosen = G .chosen;
+        decided = moved-is;
+      }
+
+  pub place-below : p .0 < S .n + S .q
+  place-below =
+      let A : Accepted S σ r span = accepted-any in
+      let R = ranges-facts S (A .reached .fit .ranges) in
+      rw (G .placed) (place-under S σ r R (A .reached .row-in) (A .reached .pointers))
+
+  -- the row's place lies in the store
+  pub place-inside : p .0 * S .w + S .w ≤ length (σ .store)
+  place-inside =
+      let X = lengths-facts S (lengthsOf σ) (accepted-any .reached .fit .lengths) in
+      omega (arith, row-before (S .w) (p .0) (S .n + S .q) place-below, X .store)
+
+  pub span-true : span ≡ true
+  span-true = accepted-any .reached .spans
+
+  -- what it answers and leaves; store: after step 3
+  pub served : (store filled buffer : List ℕ) (after : State) → after ≡ settled S (stateOf store (σ .forward) (σ .reverse) (σ .rows) (σ .counts) (σ .control)) r store m
+      → accessedOf after (Done p m) filled ≡ answered S σ r (accessNumber S σ r span) store filled buffer
+  unfolding answered
+  served store filled buffer after e =
+      let ep : p ≡ physical (place S σ r) = G .placed in
+      let em : m ≡ move S σ r = moved-is in
+      rw (eq-eqb (accessNumber S σ r span) 0 number-0, e, ep, em)
 
 -- ---- inspect's part
 
@@ -213,66 +207,65 @@ module _ (S : Settings) (σ : State) (r x : ℕ) (same : x ≡ inspectNumber S �
     exact : Exact S (lengthsOf σ)
     exact = lengths-facts S (lengthsOf σ) (tick-facts S σ (passed-all .0) .0 .lengths)
 
-    pub row-small : r < 60000
-    row-small = omega (arith, passed-all .1 .0, ranges-facts S (tick-facts S σ (passed-all .0) .0 .ranges) .n-high)
+    pub row-located : (r < length (σ .forward)) × (r < 65536)
+    row-located = (omega (arith, passed-all .1 .0, exact .forward), omega (arith, passed-all .1 .0, ranges-facts S (tick-facts S σ (passed-all .0) .0 .ranges) .n-high))
 
-    pub row-inside : r < length (σ .forward)
-    row-inside = omega (arith, passed-all .1 .0, exact .forward)
-
-    -- e: the row's forward entry as the code reads it, p: the place that it makes of it
-    module _ (p : PhysicalRow) (made : p ≡ physical (placeBy S (getD (σ .forward) r 0) r)) where
-      part-place : p ≡ physical (place S σ r)
-      part-place = made ∙ ap (λ (e : ℕ). physical (placeBy S e r)) (getD-any (σ .forward) r 0 empty row-inside)
-
+    module _ (p : PhysicalRow) (placed : p ≡ physical (place S σ r)) where
       pub part-inside : p .0 * S .w + S .w ≤ length (σ .store)
       part-inside =
           let R = ranges-facts S (tick-facts S σ (passed-all .0) .0 .ranges) in
           let below : place S σ r < S .n + S .q = place-under S σ r R (passed-all .1 .0) (passed-all .1 .1) in
-          rw part-place (omega (arith, row-before (S .w) (place S σ r) (S .n + S .q) below, exact .store))
+          rw placed (omega (arith, row-before (S .w) (place S σ r) (S .n + S .q) below, exact .store))
 
       pub part-row : (part : List ℕ) → part ≡ rowBytes (S .w) (σ .store) (p .0) → part ≡ inspectPart S σ r
       unfolding inspectPart
-      part-row part e = e ∙ rw (eq-eqb (inspectNumber S σ r) 0 (sym same ∙ z), part-place)
+      part-row part e = e ∙ rw (eq-eqb (inspectNumber S σ r) 0 (sym same ∙ z), placed)
 
 -- ---- read
 
 module _ (S : Settings) (σ : State) (r : ℕ) (span : Bool) (buffer : List ℕ) (spanned : span ≡ readSpan S (length buffer)) where
-  pub read-refused : (x : ℕ) → Stop x ≡ verdictOf S σ r span → accessedOf σ (Refused x) buffer ≡ read S σ r buffer
+  pub read-refused : {x : ℕ} {t : Served} → t ≡ record { answer = Refused x; control = σ .control } → Stop x ≡ verdictOf S σ r span
+      → accessedOf (stateOf (σ .store) (σ .forward) (σ .reverse) (σ .rows) (σ .counts) (t .control)) (t .answer) buffer ≡ read S σ r buffer
   unfolding read
-  read-refused x e = turned-away S σ r span x (σ .store) (rowBytes (S .w) (σ .store) (place S σ r)) buffer e ∙ rw spanned
+  read-refused {x} is e = rw is (turned-away S σ r span x (σ .store) (rowBytes (S .w) (σ .store) (place S σ r)) buffer e ∙ rw spanned)
 
-  module _ (p : PhysicalRow) (way : Choice) (m : Move) (goes : Go p way m ≡ verdictOf S σ r span) where
-    pub buffer-long : length buffer ≡ S .w
-    buffer-long = eqb-true (length buffer) (S .w) (sym spanned ∙ span-true S σ r span p way m goes)
+module _ {S : Settings} {σ : State} {r : ℕ} {span : Bool} (buffer : List ℕ) (spanned : span ≡ readSpan S (length buffer)) {p : PhysicalRow} {way : Choice} {m : Move} (G : Granted S σ r span p way m) where
+  pub buffer-long : length buffer ≡ S .w
+  buffer-long = eqb-true (length buffer) (S .w) (sym spanned ∙ span-true G)
 
-    pub read-served : (filled : List ℕ) → filled ≡ rowBytes (S .w) (σ .store) (p .0) → (after : State) → after ≡ settled S σ r (σ .store) m → accessedOf after (Done p m) filled ≡ read S σ r buffer
-    unfolding read
-    read-served filled e after s =
-        let ep : p ≡ physical (place S σ r) = placed S σ r span p way m goes in
-        let ef : filled ≡ rowBytes (S .w) (σ .store) (place S σ r) = e ∙ ap (λ (x : PhysicalRow). rowBytes (S .w) (σ .store) (x .0)) ep in
-        served S σ r span p way m goes (σ .store) filled buffer after s ∙ rw (spanned, ef)
+  pub read-served : {filled : List ℕ} → filled ≡ rowBytes (S .w) (σ .store) (p .0) → {t : Served} {next : Control} → t ≡ record { answer = Done p m; control = next }
+      → {store forward reverse rows counts : List ℕ} → stateOf store forward reverse rows counts next ≡ settled S σ r (σ .store) m
+      → accessedOf (stateOf store forward reverse rows counts (t .control)) (t .answer) filled ≡ read S σ r buffer
+  unfolding read
+  read-served {filled} e {next = next} is {store} {forward} {reverse} {rows} {counts} s =
+      let ep : p ≡ physical (place S σ r) = G .placed in
+      let ef : filled ≡ rowBytes (S .w) (σ .store) (place S σ r) = e ∙ ap (λ (x : PhysicalRow). rowBytes (S .w) (σ .store) (x .0)) ep in
+      rw is (served G (σ .store) filled buffer (stateOf store forward reverse rows counts next) s ∙ rw (spanned, ef))
 
 -- ---- write
 
-module _ (S : Settings) (σ : State) (r column : ℕ) (span : Bool) (bytes : List ℕ) (spanned : span ≡ writeSpan S column (length bytes)) where
-  pub write-refused : (x : ℕ) → Stop x ≡ verdictOf S σ r span → accessedOf σ (Refused x) [] ≡ write S σ r column bytes
+module _ (S : Settings) (σ : State) (r : ℕ) (span : Bool) (column : ℕ) (bytes : List ℕ) (spanned : span ≡ writeSpan S column (length bytes)) where
+  pub write-refused : {x : ℕ} {t : Served} → t ≡ record { answer = Refused x; control = σ .control } → Stop x ≡ verdictOf S σ r span
+      → accessedOf (stateOf (σ .store) (σ .forward) (σ .reverse) (σ .rows) (σ .counts) (t .control)) (t .answer) [] ≡ write S σ r column bytes
   unfolding write
-  write-refused x e = turned-away S σ r span x (written (S .w) (σ .store) (place S σ r) column bytes) [] [] e ∙ rw spanned
+  write-refused {x} is e = rw is (turned-away S σ r span x (written (S .w) (σ .store) (place S σ r) column bytes) [] [] e ∙ rw spanned)
 
-  module _ (p : PhysicalRow) (way : Choice) (m : Move) (goes : Go p way m ≡ verdictOf S σ r span) where
-    pub bytes-fit : column + length bytes ≤ S .w
-    bytes-fit = leb-true (column + length bytes) (S .w) (sym spanned ∙ span-true S σ r span p way m goes)
+module _ {S : Settings} {σ : State} {r : ℕ} {span : Bool} (column : ℕ) (bytes : List ℕ) (spanned : span ≡ writeSpan S column (length bytes)) {p : PhysicalRow} {way : Choice} {m : Move} (G : Granted S σ r span p way m) where
+  pub bytes-fit : column + length bytes ≤ S .w
+  bytes-fit = leb-true (column + length bytes) (S .w) (sym spanned ∙ span-true G)
 
-    pub write-served : (store : List ℕ) → store ≡ written (S .w) (σ .store) (p .0) column bytes → (after : State)
-        → after ≡ settled S (stateOf store (σ .forward) (σ .reverse) (σ .rows) (σ .counts) (σ .control)) r store m → accessedOf after (Done p m) [] ≡ write S σ r column bytes
-    unfolding write
-    write-served store e after s =
-        let ep : p ≡ physical (place S σ r) = placed S σ r span p way m goes in
-        let es : store ≡ written (S .w) (σ .store) (place S σ r) column bytes = e ∙ ap (λ (x : PhysicalRow). written (S .w) (σ .store) (x .0) column bytes) ep in
-        served S σ r span p way m goes store [] [] after s ∙ rw (spanned, es)
+  pub write-served : {filled : List ℕ} → filled ≡ written (S .w) (σ .store) (p .0) column bytes → {t : Served} {next : Control} → t ≡ record { answer = Done p m; control = next }
+      → {store forward reverse rows counts : List ℕ}
+      → stateOf store forward reverse rows counts next ≡ settled S (stateOf filled (σ .forward) (σ .reverse) (σ .rows) (σ .counts) (σ .control)) r filled m
+      → accessedOf (stateOf store forward reverse rows counts (t .control)) (t .answer) [] ≡ write S σ r column bytes
+  unfolding write
+  write-served {filled} e {next = next} is {store} {forward} {reverse} {rows} {counts} s =
+      let ep : p ≡ physical (place S σ r) = G .placed in
+      let es : filled ≡ written (S .w) (σ .store) (place S σ r) column bytes = e ∙ ap (λ (x : PhysicalRow). written (S .w) (σ .store) (x .0) column bytes) ep in
+      rw is (served G filled [] [] (stateOf store forward reverse rows counts next) s ∙ rw (spanned, es))
 
-    pub written-long : (store : List ℕ) → store ≡ written (S .w) (σ .store) (p .0) column bytes → length store ≡ length (σ .store)
-    written-long store e =
-        let A : Accepted S σ r span = accepted S σ r span (number-0 S σ r span p way m goes) in
-        let X = lengths-facts S (lengthsOf σ) (A .reached .fit .lengths) in
-        rw e (length-written (S .w) (S .n + S .q) (σ .store) (p .0) column bytes (X .store) (place-below S σ r span p way m goes) bytes-fit)
+  pub written-long : {store : List ℕ} → store ≡ written (S .w) (σ .store) (p .0) column bytes → length store ≡ length (σ .store)
+  written-long e =
+      let A : Accepted S σ r span = accepted S σ r span (number-0 G) in
+      let X = lengths-facts S (lengthsOf σ) (A .reached .fit .lengths) in
+      rw e (length-written (S .w) (S .n + S .q) (σ .store) (p .0) column bytes (X .store) (place-below G) bytes-fit)

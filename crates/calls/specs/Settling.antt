@@ -1,4 +1,4 @@
--- Step 4 over store, pointer tables and control record alone, and what the code that settles an access asks.
+-- Step 4 over store, pointer tables and control record alone, and what the code that moves a row asks.
 -- `proofs/` has it equal to `Steps`.
 -- Assumes nothing.
 use Prim.Native.Nat.{ℕ, _+_, _*_, _<_, _≤_}
@@ -9,24 +9,11 @@ use mathlib.Core.List.{List}
 use lib.ListN.{length, getD}
 use Rattle.geometry.specs.declared.Settings.{Settings}
 use Rattle.geometry.specs.declared.Control.{Control}
-use Rattle.geometry.specs.declared.PhysicalRow.{PhysicalRow}
-use Rattle.geometry.specs.Numbering.{physical}
 use Rattle.geometry.specs.Conditions.{rangesHold}
 use Rattle.geometry.specs.Entry.{empty}
-use Rattle.tracker.specs.declared.Choice.{Choice}
-use Rattle.tracker.specs.Choice.{choiceOf}
 use Rattle.engine.specs.declared.Move.{Move}
 use Rattle.engine.specs.declared.Move.the-variants.{Stayed, ToSlot, OverSlot}
-use Rattle.engine.specs.State.{State}
-use Rattle.engine.specs.Steps.{place, riseFrom, move, storeAfter, forwardAfter, reverseAfter, headAfter, passedAfter}
-use Rattle.engine.specs.Ladder.{accessNumber}
-
--- an accepted access with what was decided of it
-pub record Decided (S : Settings) (σ : State) (r : ℕ) (p : PhysicalRow) (way : Choice) (m : Move) : Type 0 where
-  pub accepted : accessNumber S σ r true ≡ 0
-  pub placed : p ≡ physical (place S σ r)
-  pub chosen : way ≡ choiceOf (place S σ r) (σ .rows) (σ .counts) (σ .control .spill)
-  pub decided : m ≡ move S σ r
+use Rattle.engine.specs.Steps.{riseFrom, storeAfter, forwardAfter, reverseAfter, headAfter, passedAfter}
 
 -- the control record when the access is counted; spill: what the tracker leaves
 abbrev pub counted : ℕ → Control → Control

@@ -7,8 +7,8 @@ ghost use Rattle.engine.specs.Calls.{notedOf, accessedOf, setUp, tick, read, wr
 use engine::Access;
 use engine::Move;
 use geometry::Control;
-use geometry::Entry;
 use geometry::Lengths;
+use geometry::PhysicalRow;
 use geometry::Settings;
 use geometry::VisibleRow;
 use ladder::Verdict;
@@ -25,6 +25,29 @@ pub struct Served {
 pub struct Numbered {
     pub number: u32,
     pub control: Control,
+}
+
+// The answer of a refusal, which leaves the control record.
+fn refused(control: Control, number: u32) -> Served
+    ensures { λ r. ⌜ r ≡ record { answer = Access.Refused number; control = control } ⌝ }
+{
+    Served {
+        answer: Access::Refused(number),
+        control: control,
+    }
+}
+
+// The answer of an accepted access, which leaves this control record.
+fn accepted(control: Control, place: PhysicalRow, moved: Move) -> Served
+    ensures { λ r. ⌜ r ≡ record { answer = Access.Done place moved; control = control } ⌝ }
+{
+    Served {
+        answer: Access::Done {
+            place: place,
+            moved: moved,
+        },
+        control: control,
+    }
 }
 
 // The control record at set-up.
@@ -115,49 +138,38 @@ pub fn read(
 ) -> Served
     ensures { λ r. ⌜ accessedOf (stateOf (now (store .exit)) (now (forward .exit)) (now (reverse .exit)) (now (rows .exit)) (now (counts .exit)) (r .control)) (r .answer) (now (buffer .exit)) ≡ read s (stateOf (now (store .entry)) (now (forward .entry)) (now (reverse .entry)) (now (rows .entry)) (now (counts .entry)) control) row (now (buffer .entry)) ⌝ }
 {
+    let early = ladder::tick_number(control, s, store, forward, reverse, rows, counts);
+    if early != 0 {
+        return refused(control, early);
+    }
     let span = ladder::read_span(s, buffer.len());
-    let verdict = ladder::judge(control, s, row, span, store, forward, reverse, rows, counts);
+    let number = ladder::row_number(control, s, row, span, forward, reverse);
+    if number != 0 {
+        return refused(control, number);
+    }
+    let place = ladder::place(s, row, forward);
+    let choice = tracker::choose(place.0 as u16, rows, counts, control.spill);
+    let estimate = tracker::estimate(choice);
+    let verdict = ladder::decide(control, s, row, estimate, forward, reverse);
     match verdict {
-        Verdict::Stop(number) => Served {
-            answer: Access::Refused(number),
-            control: control,
-        },
-        Verdict::Go {
-            place,
-            choice,
-            moved,
-        } => {
+        Verdict::Stop(last) => refused(control, last),
+        Verdict::Go(moved) => {
             rows::read_row(store, s.w as usize, place.0 as usize, buffer);
+            let counted = settle::count(control, place, choice, rows, counts);
             if let Move::Stayed = moved {
-                let counted = settle::count(control, place, choice, rows, counts);
-                return Served {
-                    answer: Access::Done {
-                        place: place,
-                        moved: moved,
-                    },
-                    control: counted,
-                };
+                return accepted(counted, place, moved);
             }
-            let next = settle::settle(
-                control,
+            let next = settle::relocate(
+                counted,
                 s,
-                row,
+                VisibleRow(row as u16),
                 place,
-                choice,
                 moved,
                 store,
                 forward,
                 reverse,
-                rows,
-                counts,
             );
-            Served {
-                answer: Access::Done {
-                    place: place,
-                    moved: moved,
-                },
-                control: next,
-            }
+            accepted(next, place, moved)
         }
     }
 }
@@ -177,49 +189,38 @@ pub fn write(
 ) -> Served
     ensures { λ r. ⌜ accessedOf (stateOf (now (store .exit)) (now (forward .exit)) (now (reverse .exit)) (now (rows .exit)) (now (counts .exit)) (r .control)) (r .answer) [] ≡ write s (stateOf (now (store .entry)) (now (forward .entry)) (now (reverse .entry)) (now (rows .entry)) (now (counts .entry)) control) row column (now (bytes .entry)) ⌝ }
 {
+    let early = ladder::tick_number(control, s, store, forward, reverse, rows, counts);
+    if early != 0 {
+        return refused(control, early);
+    }
     let span = ladder::write_span(s, column, bytes.len());
-    let verdict = ladder::judge(control, s, row, span, store, forward, reverse, rows, counts);
+    let number = ladder::row_number(control, s, row, span, forward, reverse);
+    if number != 0 {
+        return refused(control, number);
+    }
+    let place = ladder::place(s, row, forward);
+    let choice = tracker::choose(place.0 as u16, rows, counts, control.spill);
+    let estimate = tracker::estimate(choice);
+    let verdict = ladder::decide(control, s, row, estimate, forward, reverse);
     match verdict {
-        Verdict::Stop(number) => Served {
-            answer: Access::Refused(number),
-            control: control,
-        },
-        Verdict::Go {
-            place,
-            choice,
-            moved,
-        } => {
+        Verdict::Stop(last) => refused(control, last),
+        Verdict::Go(moved) => {
             rows::write_row(store, s.w as usize, place.0 as usize, column, bytes);
+            let counted = settle::count(control, place, choice, rows, counts);
             if let Move::Stayed = moved {
-                let counted = settle::count(control, place, choice, rows, counts);
-                return Served {
-                    answer: Access::Done {
-                        place: place,
-                        moved: moved,
-                    },
-                    control: counted,
-                };
+                return accepted(counted, place, moved);
             }
-            let next = settle::settle(
-                control,
+            let next = settle::relocate(
+                counted,
                 s,
-                row,
+                VisibleRow(row as u16),
                 place,
-                choice,
                 moved,
                 store,
                 forward,
                 reverse,
-                rows,
-                counts,
             );
-            Served {
-                answer: Access::Done {
-                    place: place,
-                    moved: moved,
-                },
-                control: next,
-            }
+            accepted(next, place, moved)
         }
     }
 }
@@ -241,7 +242,6 @@ pub fn inspect_part<'a>(
     if number != 0 {
         return &store[..0];
     }
-    let at = row as usize;
-    let place = ladder::place_of(s, VisibleRow(row as u16), Entry(forward[at]));
+    let place = ladder::place(s, row, forward);
     rows::row_part(store, s.w as usize, place.0 as usize)
 }

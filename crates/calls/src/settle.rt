@@ -2,14 +2,13 @@
 ghost use mathlib.Core.Path.{_≡_};
 ghost use mathlib.Core.Logic.{_⊎_};
 ghost use Prim.Native.Nat.{_<_};
-ghost use lib.ListN.{length, getD, set};
+ghost use lib.ListN.{length, set};
 ghost use Rattle.geometry.specs.Numbering.{homeRow, slotRow};
 ghost use Rattle.geometry.specs.Entry.{empty};
 ghost use Rattle.rows.specs.Bytes.{copied};
 ghost use Rattle.tracker.specs.Choice.{estimateBy, followed, Within, trackedOf};
-ghost use Rattle.engine.specs.State.{stateOf};
-ghost use Rattle.engine.specs.Steps.{left, settled};
-ghost use Rattle.calls.specs.Settling.{tablesOf, relocated, counted, Sendable, Movable, Relocatable, Decided};
+ghost use Rattle.engine.specs.Steps.{left};
+ghost use Rattle.calls.specs.Settling.{tablesOf, relocated, counted, Sendable, Movable, Relocatable};
 use engine::Move;
 use geometry::Control;
 use geometry::Entry;
@@ -75,7 +74,7 @@ fn enter(
 }
 
 // Step 4, once it is decided where the row goes.
-fn relocate(
+pub fn relocate(
     control: Control,
     s: Settings,
     row: VisibleRow,
@@ -117,34 +116,4 @@ pub fn count(
         spill: spill,
         acts: control.acts + 1,
     }
-}
-
-// Steps 2 and 4 of an accepted access, and `acts` of step 3.
-pub fn settle(
-    control: Control,
-    s: Settings,
-    row: u32,
-    place: PhysicalRow,
-    choice: Choice,
-    moved: Move,
-    store: &mut [u8],
-    forward: &mut [u16],
-    reverse: &mut [u16],
-    rows: &mut [u16],
-    counts: &mut [u32],
-) -> Control
-    requires { ⌜ Decided s (stateOf (now store) (now forward) (now reverse) (now rows) (now counts) control) row place choice moved ⌝ }
-    ensures { λ r. ⌜ stateOf (now (store .exit)) (now (forward .exit)) (now (reverse .exit)) (now (rows .exit)) (now (counts .exit)) r ≡ settled s (stateOf (now (store .entry)) (now (forward .entry)) (now (reverse .entry)) (now (rows .entry)) (now (counts .entry)) control) row (now (store .entry)) moved ⌝ }
-{
-    let counted = count(control, place, choice, rows, counts);
-    relocate(
-        counted,
-        s,
-        VisibleRow(row as u16),
-        place,
-        moved,
-        store,
-        forward,
-        reverse,
-    )
 }

@@ -1,13 +1,13 @@
 -- The stages of the code are the ladder and the steps. Assumes nothing.
 use Prim.Native.Nat.{ℕ, _+_, _-_, _<_, _≤_}
 use native.Mathlib.Omega.{arith}
-use mathlib.Core.Path.{_≡_, refl, sym, ap, _∙_}
+use mathlib.Core.Path.{_≡_, sym, ap, _∙_}
 use mathlib.Core.Logic.{inl, inr, _≢_}
 use mathlib.Core.Bool.{Bool, true, false, cond, not, _||_}
 use mathlib.Core.List.{List}
 use lib.Dec.{ltb, leb, eqb}
-use lib.ListN.{length, getD}
-use borrow.Author.Tests.{le-leb, lt-leb, lt-ltb, le-ltb, eq-eqb, ne-eqb, eqb-true, ltb-true, not-true}
+use lib.ListN.{getD}
+use borrow.Author.Tests.{le-leb, lt-leb, lt-ltb, le-ltb, eq-eqb, ne-eqb, ltb-true, not-true}
 use Rattle.geometry.specs.declared.Settings.{Settings}
 use Rattle.geometry.specs.declared.Control.{Control}
 use Rattle.geometry.specs.declared.PhysicalRow.{PhysicalRow}
@@ -26,10 +26,10 @@ use Rattle.tracker.proofs.Choices.{estimate-choice}
 use Rattle.engine.specs.declared.Move.the-variants.{Stayed, ToSlot, OverSlot}
 use Rattle.ladder.specs.declared.Verdict.{Verdict}
 use Rattle.ladder.specs.declared.Verdict.the-variants.{Stop, Go}
-use Rattle.engine.specs.State.{State, lengthsOf, forwardOf, reverseOf}
-use Rattle.engine.specs.Steps.{placeBy, place, moves, destinationFrom, destination, rise, riseFrom, moveInto, move}
+use Rattle.engine.specs.State.{State, lengthsOf, forwardOf}
+use Rattle.engine.specs.Steps.{placeBy, place, tracked, moves, destinationFrom, destination, rise, riseFrom, moveInto, move}
 use Rattle.engine.specs.Ladder.{rung, _▹_, controlHolds, pointsBack, pointersHold, destinationHolds, setUpNumber, tickNumber, inspectNumber, accessNumber}
-use Rattle.ladder.specs.Stages.{rowNumber, quarantineOf, verdictOf}
+use Rattle.ladder.specs.Stages.{rowNumber, quarantineOf, decisionOf}
 use Rattle.engine.proofs.Rungs.{pass, held, passes, holds}
 use Rattle.engine.proofs.Facts.{Steady, steady, tick-facts, points-back}
 
@@ -163,13 +163,13 @@ row-facts S control r span forward reverse h =
     let p7 = pass _ _ (p6 .1) in
     (ltb-true r (S .n) (held _ _ (p5 .0)), held _ _ (p7 .0))
 
--- the place p of such a row, whose forward entry is e, is a 16-bit number
-pub place-fits : (S : Settings) → Ranges S → (r e : ℕ) (forward reverse : List ℕ) → r < S .n → pointsBack (getD forward r empty) (S .q) reverse r ≡ true
-    → e ≡ getD forward r empty → (p : PhysicalRow) → p ≡ physical (placeBy S e r) → p .0 < 65500
-place-fits S R r e forward reverse row-in back same p placed =
-    let b : pointsBack e (S .q) reverse r ≡ true = rw same back in
+-- the place p of such a row is a 16-bit number
+pub place-fits : (S : Settings) → Ranges S → (r : ℕ) (forward reverse : List ℕ) → r < S .n → pointsBack (getD forward r empty) (S .q) reverse r ≡ true
+    → (p : PhysicalRow) → p ≡ physical (placeBy S (getD forward r empty) r) → p .0 < 65500
+place-fits S R r forward reverse row-in back p placed =
+    let e = getD forward r empty in
     let small : placeBy S e r < 65500 =
-    elim (points-back e (S .q) reverse r b) [
+    elim (points-back e (S .q) reverse r back) [
       | inl z ↦ rw (eq-eqb e empty z) (omega (arith, R .n-high))
       | inr k ↦ rw (ne-eqb e empty (λ z. omega (arith, k .0, R .q-high))) (omega (arith, k .0, R .n-high, R .q-high))
     ] in
@@ -177,27 +177,40 @@ place-fits S R r e forward reverse row-in back same p placed =
 
 -- ---- 9, the destination's 7, and the move
 
-module _ (S : Settings) (control : Control) (entry : ℕ) (p : PhysicalRow) (choice : Choice) (forward reverse : List ℕ) (d : ℕ) where
-  pub no-room : S .q < control .passed + riseFrom (control .head) entry → Stop 9 ≡ quarantineOf S control entry p choice forward reverse d
+module _ (S : Settings) (control : Control) (entry : ℕ) (forward reverse : List ℕ) (d : ℕ) where
+  pub no-room : S .q < control .passed + riseFrom (control .head) entry → Stop 9 ≡ quarantineOf S control entry forward reverse d
   unfolding quarantineOf
   no-room h = rw (lt-leb (control .passed + riseFrom (control .head) entry) (S .q) h)
 
   module _ (room : control .passed + riseFrom (control .head) entry ≤ S .q) (e : ℕ) (was : e ≡ getD reverse d empty) where
-    pub unsound : pointsBack e (S .n) forward d ≡ false → Stop 7 ≡ quarantineOf S control entry p choice forward reverse d
+    pub unsound : pointsBack e (S .n) forward d ≡ false → Stop 7 ≡ quarantineOf S control entry forward reverse d
     unfolding quarantineOf
     unsound f = rw (le-leb (control .passed + riseFrom (control .head) entry) (S .q) room, rw was at f)
 
-    sound : pointsBack e (S .n) forward d ≡ true → Go p choice (moveInto d e) ≡ quarantineOf S control entry p choice forward reverse d
+    sound : pointsBack e (S .n) forward d ≡ true → Go (moveInto d e) ≡ quarantineOf S control entry forward reverse d
     unfolding quarantineOf
     sound f = rw (le-leb (control .passed + riseFrom (control .head) entry) (S .q) room, rw was at f, was)
 
-    pub sound-to : pointsBack e (S .n) forward d ≡ true → eqb e empty ≡ true → Go p choice (ToSlot (slot d)) ≡ quarantineOf S control entry p choice forward reverse d
+    pub sound-to : pointsBack e (S .n) forward d ≡ true → eqb e empty ≡ true → Go (ToSlot (slot d)) ≡ quarantineOf S control entry forward reverse d
     sound-to f k = rw k at (sound f)
 
-    pub sound-over : pointsBack e (S .n) forward d ≡ true → eqb e empty ≡ false → Go p choice (OverSlot (slot d) (visible e)) ≡ quarantineOf S control entry p choice forward reverse d
+    pub sound-over : pointsBack e (S .n) forward d ≡ true → eqb e empty ≡ false → Go (OverSlot (slot d) (visible e)) ≡ quarantineOf S control entry forward reverse d
     sound-over f k = rw k at (sound f)
 
+module _ (S : Settings) (control : Control) (entry estimate : ℕ) (forward reverse : List ℕ) where
+  pub rests : isDue (S .a) estimate ≡ false → Go Stayed ≡ decisionOf S control entry estimate forward reverse
+  unfolding decisionOf
+  rests f = rw f
+
+  pub is-moved : isDue (S .a) estimate ≡ true → quarantineOf S control entry forward reverse (destinationFrom S (control .head) entry) ≡ decisionOf S control entry estimate forward reverse
+  unfolding decisionOf
+  is-moved f = rw f
+
 -- ---- the verdict
+
+-- all that is decided of an access
+unfoldable pub verdictOf : Settings → State → ℕ → Bool → Verdict
+verdictOf S σ r span = cond (eqb (accessNumber S σ r span) 0) (Go (move S σ r)) (Stop (accessNumber S σ r span))
 
 module _ (S : Settings) (σ : State) (r : ℕ) (span : Bool) where
   row : ℕ
@@ -230,15 +243,14 @@ module _ (S : Settings) (σ : State) (r : ℕ) (span : Bool) where
       unfolding row
       number-last = access-is ∙ goes-on _ tick ∙ goes-on _ row-0
 
-      pub verdict-rests : moves S σ r ≡ false → Go (physical (place S σ r)) (choiceOf (place S σ r) (σ .rows) (σ .counts) (σ .control .spill)) Stayed ≡ verdictOf S σ r span
+      verdict-rests : moves S σ r ≡ false → Go Stayed ≡ verdictOf S σ r span
       unfolding verdictOf move last rung _▹_
       verdict-rests m =
           let z : accessNumber S σ r span ≡ 0 = number-last ∙ rw m in
           rw (z, m)
 
-      pub verdict-moves : moves S σ r ≡ true
-          → quarantineOf S (σ .control) (forwardOf σ r) (physical (place S σ r)) (choiceOf (place S σ r) (σ .rows) (σ .counts) (σ .control .spill)) (σ .forward) (σ .reverse) (destination S σ r)
-          ≡ verdictOf S σ r span
+      verdict-moves : moves S σ r ≡ true
+          → quarantineOf S (σ .control) (forwardOf σ r) (σ .forward) (σ .reverse) (destination S σ r) ≡ verdictOf S σ r span
       unfolding verdictOf quarantineOf move last rung _▹_
       verdict-moves m =
           elim (split (leb (σ .control .passed + rise σ r) (S .q))) [
@@ -249,29 +261,27 @@ module _ (S : Settings) (σ : State) (r : ℕ) (span : Bool) where
             | inr k ↦ let z : accessNumber S σ r span ≡ 9 = number-last ∙ rw (m, k) in rw (k, z)
           ]
 
--- what the code has looked up on the way: the forward entry, the place, the tracker's way, the estimate, and whether it is due
-pub record Looked (S : Settings) (σ : State) (r e : ℕ) (p : PhysicalRow) (way : Choice) (estimate : ℕ) (due : Bool) : Type 0 where
-  pub entry : e ≡ forwardOf σ r
-  pub placed : p ≡ physical (placeBy S e r)
+      verdict-decided : decisionOf S (σ .control) (forwardOf σ r) (tracked S σ r .estimate) (σ .forward) (σ .reverse) ≡ verdictOf S σ r span
+      verdict-decided =
+          elim (split (moves S σ r)) [
+            | inl m ↦ sym (is-moved S (σ .control) (forwardOf σ r) (tracked S σ r .estimate) (σ .forward) (σ .reverse) m) ∙ verdict-moves m
+            | inr m ↦ sym (rests S (σ .control) (forwardOf σ r) (tracked S σ r .estimate) (σ .forward) (σ .reverse) m) ∙ verdict-rests m
+          ]
+
+-- what the code has looked up on the way: the place, the tracker's way and the estimate
+pub record Looked (S : Settings) (σ : State) (r : ℕ) (p : PhysicalRow) (way : Choice) (estimate : ℕ) : Type 0 where
+  pub placed : p ≡ physical (place S σ r)
   pub chosen : way ≡ choiceOf (p .0) (σ .rows) (σ .counts) (σ .control .spill)
   pub estimated : estimate ≡ estimateBy way
-  pub dued : due ≡ isDue (S .a) estimate
 
-module _ {S : Settings} {σ : State} {r e : ℕ} {p : PhysicalRow} {way : Choice} {estimate : ℕ} {due : Bool} (K : Looked S σ r e p way estimate due) where
-  looked-place : p ≡ physical (place S σ r)
-  looked-place = K .placed ∙ ap (λ (x : ℕ). physical (placeBy S x r)) (K .entry)
+module _ {S : Settings} {σ : State} {r : ℕ} {p : PhysicalRow} {way : Choice} {estimate : ℕ} (K : Looked S σ r p way estimate) where
+  pub looked-way : way ≡ choiceOf (place S σ r) (σ .rows) (σ .counts) (σ .control .spill)
+  looked-way = K .chosen ∙ ap (λ (x : PhysicalRow). choiceOf (x .0) (σ .rows) (σ .counts) (σ .control .spill)) (K .placed)
 
-  looked-way : way ≡ choiceOf (place S σ r) (σ .rows) (σ .counts) (σ .control .spill)
-  looked-way = K .chosen ∙ ap (λ (x : PhysicalRow). choiceOf (x .0) (σ .rows) (σ .counts) (σ .control .spill)) looked-place
+  looked-estimate : estimate ≡ tracked S σ r .estimate
+  looked-estimate = K .estimated ∙ ap estimateBy looked-way ∙ estimate-choice (place S σ r) (σ .rows) (σ .counts) (σ .control .spill)
 
-  looked-moves : due ≡ moves S σ r
-  looked-moves =
-      K .dued
-      ∙ ap (isDue (S .a)) (K .estimated ∙ ap estimateBy looked-way ∙ estimate-choice (place S σ r) (σ .rows) (σ .counts) (σ .control .spill))
-
-  module _ (span : Bool) (tick : tickNumber S σ ≡ 0) (row-0 : rowNumber S (σ .control) r span (σ .forward) (σ .reverse) ≡ 0) where
-    pub judged-rests : due ≡ false → Go p way Stayed ≡ verdictOf S σ r span
-    judged-rests f = rw (looked-place, looked-way) (verdict-rests S σ r span tick row-0 (sym looked-moves ∙ f))
-
-    pub judged-moves : due ≡ true → (v : Verdict) → v ≡ quarantineOf S (σ .control) e p way (σ .forward) (σ .reverse) (destinationFrom S (σ .control .head) e) → v ≡ verdictOf S σ r span
-    judged-moves f v q = q ∙ rw (looked-way, looked-place, K .entry) (verdict-moves S σ r span tick row-0 (sym looked-moves ∙ f))
+  -- the code's decision is the verdict
+  pub judged : (span : Bool) → tickNumber S σ ≡ 0 → rowNumber S (σ .control) r span (σ .forward) (σ .reverse) ≡ 0
+      → (v : Verdict) → v ≡ decisionOf S (σ .control) (forwardOf σ r) estimate (σ .forward) (σ .reverse) → v ≡ verdictOf S σ r span
+  judged span tick row-0 v q = q ∙ rw looked-estimate (verdict-decided S σ r span tick row-0)

@@ -8,16 +8,13 @@ use lib.Dec.{ltb, leb, eqb}
 use lib.ListN.{getD}
 use Rattle.geometry.specs.declared.Settings.{Settings}
 use Rattle.geometry.specs.declared.Control.{Control}
-use Rattle.geometry.specs.declared.PhysicalRow.{PhysicalRow}
-use Rattle.geometry.specs.Numbering.{physical}
 use Rattle.geometry.specs.Entry.{empty}
-use Rattle.tracker.specs.declared.Choice.{Choice}
-use Rattle.tracker.specs.Choice.{choiceOf}
+use Rattle.tracker.specs.Track.{isDue}
+use Rattle.engine.specs.declared.Move.the-variants.{Stayed}
 use Rattle.ladder.specs.declared.Verdict.{Verdict}
 use Rattle.ladder.specs.declared.Verdict.the-variants.{Stop, Go}
-use Rattle.engine.specs.State.{State}
-use Rattle.engine.specs.Steps.{place, riseFrom, moveInto, move}
-use Rattle.engine.specs.Ladder.{rung, _▹_, pointsBack, accessNumber}
+use Rattle.engine.specs.Steps.{riseFrom, destinationFrom, moveInto}
+use Rattle.engine.specs.Ladder.{rung, _▹_, pointsBack}
 
 -- the rungs 5 to 8
 unfoldable pub rowNumber : Settings → Control → ℕ → Bool → List ℕ → List ℕ → ℕ
@@ -28,15 +25,13 @@ rowNumber S control r span forward reverse =
     ▹ rung (not (eqb (control .acts) (S .l))) 8
 
 -- the last two rungs of an access that moves its row, and the move; d: the destination
-unfoldable pub quarantineOf : Settings → Control → ℕ → PhysicalRow → Choice → List ℕ → List ℕ → ℕ → Verdict
-quarantineOf S control entry p choice forward reverse d =
+unfoldable pub quarantineOf : Settings → Control → ℕ → List ℕ → List ℕ → ℕ → Verdict
+quarantineOf S control entry forward reverse d =
     cond (leb (control .passed + riseFrom (control .head) entry) (S .q))
-    (cond (pointsBack (getD reverse d empty) (S .n) forward d) (Go p choice (moveInto d (getD reverse d empty))) (Stop 7))
+    (cond (pointsBack (getD reverse d empty) (S .n) forward d) (Go (moveInto d (getD reverse d empty))) (Stop 7))
     (Stop 9)
 
--- all that is decided of an access
-unfoldable pub verdictOf : Settings → State → ℕ → Bool → Verdict
-verdictOf S σ r span =
-    cond (eqb (accessNumber S σ r span) 0)
-    (Go (physical (place S σ r)) (choiceOf (place S σ r) (σ .rows) (σ .counts) (σ .control .spill)) (move S σ r))
-    (Stop (accessNumber S σ r span))
+-- whether and where a row with that forward entry and that estimate moves
+unfoldable pub decisionOf : Settings → Control → ℕ → ℕ → List ℕ → List ℕ → Verdict
+decisionOf S control entry estimate forward reverse =
+    cond (isDue (S .a) estimate) (quarantineOf S control entry forward reverse (destinationFrom S (control .head) entry)) (Go Stayed)

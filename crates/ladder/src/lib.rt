@@ -1,13 +1,14 @@
 // The refusals, in the order of document 01. Nothing lent is written here.
 ghost use mathlib.Core.Path.{_≡_};
 ghost use Prim.Native.Nat.{_+_, _<_, _≤_};
-ghost use lib.ListN.{length};
+ghost use lib.ListN.{length, getD};
 ghost use Rattle.geometry.specs.Numbering.{physical};
+ghost use Rattle.geometry.specs.Entry.{empty};
 ghost use Rattle.tracker.specs.Track.{isDue};
 ghost use Rattle.engine.specs.State.{stateOf};
 ghost use Rattle.engine.specs.Steps.{destinationFrom, riseFrom, placeBy};
 ghost use Rattle.engine.specs.Ladder.{fitNumber, controlHolds, pointsBack, tickNumber, inspectNumber, readSpan, writeSpan};
-ghost use Rattle.ladder.specs.Stages.{rowNumber, quarantineOf, verdictOf};
+ghost use Rattle.ladder.specs.Stages.{rowNumber, quarantineOf, decisionOf};
 use engine::Move;
 use geometry::Control;
 use geometry::Entry;
@@ -18,16 +19,12 @@ use geometry::Slot;
 use geometry::VisibleRow;
 use tracker::Choice;
 
-// What is decided of an access before anything is written.
+// What is decided of an access that the rungs 1 to 8 let pass.
 pub enum Verdict {
     // it is refused with this number
     Stop(u32),
-    // it is accepted: the row's place, the tracker's way, and where the row goes
-    Go {
-        place: PhysicalRow,
-        choice: Choice,
-        moved: Move,
-    },
+    // it is accepted, and this is where the row goes
+    Go(Move),
 }
 
 // 1, 2 and 3.
@@ -103,7 +100,7 @@ fn points_back(entry: Entry, limit: u32, other: &[u16], x: u32) -> bool
 }
 
 // The rungs 5 to 8.
-fn row_number(
+pub fn row_number(
     control: Control,
     s: Settings,
     row: u32,
@@ -149,14 +146,24 @@ pub fn write_span(s: Settings, column: usize, count: usize) -> bool
     count <= w - column
 }
 
-// Step 1: the place of a row with that forward entry.
-pub fn place_of(s: Settings, row: VisibleRow, entry: Entry) -> PhysicalRow
+// The place of a row with that forward entry.
+fn place_of(s: Settings, row: VisibleRow, entry: Entry) -> PhysicalRow
     ensures { λ r. ⌜ r ≡ physical (placeBy s (entry .0) (row .0)) ⌝ }
 {
     if entry.is_empty() {
         return geometry::home(row);
     }
     geometry::slot_row(s, entry.slot())
+}
+
+// Step 1: the place of a row.
+pub fn place(s: Settings, row: u32, forward: &[u16]) -> PhysicalRow
+    requires { ⌜ (row < length (now forward)) × (row < 65536) ⌝ }
+    ensures { λ r. ⌜ r ≡ physical (placeBy s (getD (now (forward .entry)) row empty) row) ⌝ }
+{
+    let at = row as usize;
+    let entry = Entry(forward[at]);
+    place_of(s, VisibleRow(row as u16), entry)
 }
 
 // The destination of a row with that forward entry.
@@ -185,13 +192,11 @@ fn quarantine(
     control: Control,
     s: Settings,
     entry: Entry,
-    place: PhysicalRow,
-    choice: Choice,
     forward: &[u16],
     reverse: &[u16],
 ) -> Verdict
     requires { ⌜ (length (now forward) ≡ s .n) × (length (now reverse) ≡ s .q) × (control .head < s .q) × (control .passed ≤ s .q) × (s .q ≤ 5500) ⌝ }
-    ensures { λ r. ⌜ r ≡ quarantineOf s control (entry .0) place choice (now (forward .entry)) (now (reverse .entry)) (destinationFrom s (control .head) (entry .0)) ⌝ }
+    ensures { λ r. ⌜ r ≡ quarantineOf s control (entry .0) (now (forward .entry)) (now (reverse .entry)) (destinationFrom s (control .head) (entry .0)) ⌝ }
 {
     if s.q < control.passed + rise(control.head, entry) {
         return Verdict::Stop(9);
@@ -204,17 +209,9 @@ fn quarantine(
     }
     let target = Slot(d as u16);
     if held.is_empty() {
-        return Verdict::Go {
-            place: place,
-            choice: choice,
-            moved: Move::ToSlot(target),
-        };
+        return Verdict::Go(Move::ToSlot(target));
     }
-    Verdict::Go {
-        place: place,
-        choice: choice,
-        moved: Move::OverSlot(target, held.row()),
-    }
+    Verdict::Go(Move::OverSlot(target, held.row()))
 }
 
 // The estimate calls for a move: there is one, and it is a multiple of A.
@@ -228,40 +225,23 @@ fn is_due(s: Settings, estimate: u32) -> bool
     estimate % s.a == 0
 }
 
-// All that is decided of an access before anything is written.
-pub fn judge(
+// Whether a row with that estimate is moved, and where it goes.
+pub fn decide(
     control: Control,
     s: Settings,
     row: u32,
-    span: bool,
-    store: &[u8],
+    estimate: u32,
     forward: &[u16],
     reverse: &[u16],
-    rows: &[u16],
-    counts: &[u32],
 ) -> Verdict
-    ensures { λ r. ⌜ r ≡ verdictOf s (stateOf (now (store .entry)) (now (forward .entry)) (now (reverse .entry)) (now (rows .entry)) (now (counts .entry)) control) row span ⌝ }
+    requires { ⌜ (row < length (now forward)) × (1 ≤ s .a) × (length (now forward) ≡ s .n) × (length (now reverse) ≡ s .q) × (control .head < s .q) × (control .passed ≤ s .q) × (s .q ≤ 5500) ⌝ }
+    ensures { λ r. ⌜ r ≡ decisionOf s control (getD (now (forward .entry)) row empty) estimate (now (forward .entry)) (now (reverse .entry)) ⌝ }
 {
-    let early = tick_number(control, s, store, forward, reverse, rows, counts);
-    if early != 0 {
-        return Verdict::Stop(early);
-    }
-    let number = row_number(control, s, row, span, forward, reverse);
-    if number != 0 {
-        return Verdict::Stop(number);
+    if !is_due(s, estimate) {
+        return Verdict::Go(Move::Stayed);
     }
     let at = row as usize;
-    let entry = Entry(forward[at]);
-    let place = place_of(s, VisibleRow(row as u16), entry);
-    let choice = tracker::choose(place.0 as u16, rows, counts, control.spill);
-    if !is_due(s, tracker::estimate(choice)) {
-        return Verdict::Go {
-            place: place,
-            choice: choice,
-            moved: Move::Stayed,
-        };
-    }
-    quarantine(control, s, entry, place, choice, forward, reverse)
+    quarantine(control, s, Entry(forward[at]), forward, reverse)
 }
 
 // The number of an inspect.

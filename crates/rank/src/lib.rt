@@ -13,9 +13,7 @@ ghost use Rattle.rank.specs.Sum.{sumOf};
 use engine::Access;
 use engine::Move;
 use geometry::Control;
-use geometry::Entry;
 use geometry::Settings;
-use geometry::VisibleRow;
 use sizing::Figure;
 use sizing::RefreshTimes;
 use sizing::SizeTimes;
@@ -300,8 +298,7 @@ pub extern "C" fn aqua_inspect_span(
             length: 0,
         };
     }
-    let at = row as usize;
-    let place = ladder::place_of(s, VisibleRow(row as u16), Entry(forward[at]));
+    let place = ladder::place(s, row, forward);
     let w = s.w as usize;
     Span {
         start: (place.0 as usize) * w,

@@ -7,7 +7,7 @@ use mathlib.Core.Logic.{_⊎_, inl, inr}
 use mathlib.Core.List.{List, _++_, append-assoc, append-nil}
 use native.Mathlib.Omega.{arith}
 use native.Mathlib.Numerals.{add-one}
-use native.Mathlib.Nat.{add-assoc, zero-add}
+use native.Mathlib.Nat.{add-assoc, zero-add, add-sub-of-le}
 use lib.ListN.{length, getD, take, drop, set, length-set, length-drop, take-append-drop, drop-of-length-le}
 use lib.Seq.{paste, paste-zero, paste-suc, length-paste, take-paste, drop-paste, length-take-le, getD-take, getD-drop, take-take, take-add, drop-drop, drop-append-le, ext-getD}
 use borrow.Rule.Slice.PartMut.{midOf, putMid}
@@ -71,8 +71,19 @@ module _ (d : List ℕ) (at : ℕ) (s : List ℕ) (n : ℕ) where
           long = ap length value ∙ length-paste d at s (i + k) (omega arith) (omega arith);
         }
 
+    -- up to the m-th: a part of s
+    pub pasting-part : {l after : List ℕ} {i : ℕ} (m : ℕ) → i ≤ m → m ≤ n → after ≡ paste l (at + i) (take (m - i) (drop i s)) (length (take (m - i) (drop i s)))
+        → Pasting d at s n l i → Pasting d at s n after m
+    pasting-part {l} {after} {i} m low high pasted p =
+        let part = take (m - i) (drop i s) in
+        let long : length part ≡ m - i = length-take-le (m - i) (drop i s) (omega (arith, length-drop i s)) in
+        let e : i + (m - i) ≡ m = add-sub-of-le low in
+        rw e at
+        (pasting-block part (m - i) (omega arith) (take-take (m - i) (m - i) (drop i s) (omega arith))
+        (pasted ∙ ap (λ (k : ℕ). paste l (at + i) part k) long) p)
+
     -- what the loop does not write is still as it was
-    pub pasting-out : {l : List ℕ} {i : ℕ} (k : ℕ) → (k < at) ⊎ (at + n ≤ k) → Pasting d at s n l i → getD l k 0 ≡ getD d k 0
+    pasting-out : {l : List ℕ} {i : ℕ} (k : ℕ) → (k < at) ⊎ (at + n ≤ k) → Pasting d at s n l i → getD l k 0 ≡ getD d k 0
     pasting-out {l} {i} k out p =
         ap (λ (t : List ℕ). getD t k 0) (p .value)
         ∙ paste-out d at s i (omega arith) (omega arith) k (elim out [ inl before ↦ inl before | inr behind ↦ inr (omega arith) ])
@@ -103,13 +114,16 @@ pasting-copy d from at n k {l} {after} {i} source target apart more copied p =
 pub paste-whole : (d s : List ℕ) (n : ℕ) → length d ≡ n → paste d 0 s n ≡ take n s
 paste-whole d s n h = simp (zero-add, drop-of-length-le d {i = n} (omega arith), append-nil)
 
--- k elements that are written to a block of k, and from there into d
-pub paste-through : (d : List ℕ) (at : ℕ) (s : List ℕ) (k : ℕ) (block : List ℕ) {full after : List ℕ} → length block ≡ k → length s ≡ k
-    → full ≡ paste block 0 s (length s) → after ≡ paste d at full (length full) → after ≡ paste d at s k
+-- k elements that are written to a block with room for them, and from there into d
+pub paste-through : (d : List ℕ) (at : ℕ) (s : List ℕ) (k : ℕ) (block : List ℕ) {full after : List ℕ} → k ≤ length block → length s ≡ k
+    → full ≡ paste block 0 s (length s) → after ≡ paste d at (take k full) (length (take k full)) → after ≡ paste d at s k
 paste-through d at s k block {full} room enough filled put =
-    let same : full ≡ take k s = filled ∙ ap (λ (n : ℕ). paste block 0 s n) enough ∙ paste-whole block s k room in
-    let long : length full ≡ k = ap length same ∙ length-take-le k s (omega arith) in
-    put ∙ ap (λ (n : ℕ). paste d at full n) long ∙ paste-alike d at full s k (ap (take k) same ∙ take-take k k s (omega arith))
+    let same : take k full ≡ take k s =
+    ap (take k) (filled ∙ ap (λ (n : ℕ). paste block 0 s n) enough) ∙ ap (λ (n : ℕ). take n (paste block 0 s k)) (sym (zero-add k))
+    ∙ take-paste block 0 s k (omega arith) (omega arith)
+    in
+    let long : length (take k full) ≡ k = ap length same ∙ length-take-le k s (omega arith) in
+    put ∙ ap (λ (n : ℕ). paste d at (take k full) n) long ∙ paste-alike d at (take k full) s k (take-take k k full (omega arith) ∙ same)
 
 -- the first k elements from the m-th on, and the others
 drop-through : (m k : ℕ) (xs : List ℕ) → m ≤ k → k ≤ length xs → drop m (take k xs) ++ drop k xs ≡ drop m xs

@@ -1,7 +1,7 @@
 // The bytes of rows within the store: reading a row, writing into one, copying one to another.
 // Rows are of w bytes; physical row p starts at byte p × w.
 ghost use mathlib.Core.Path.{_≡_};
-ghost use mathlib.Core.Logic.{_⊎_, _≢_};
+ghost use mathlib.Core.Logic.{_≢_};
 ghost use Prim.Native.Nat.{_+_, _*_, _≤_};
 ghost use lib.ListN.{length, drop};
 ghost use lib.Seq.{paste};
@@ -27,14 +27,14 @@ pub fn row_part<'a>(store: &'a [u8], w: usize, p: usize) -> &'a [u8]
     &store[start..end]
 }
 
-// How many bytes are copied at once.
-const BLOCK: usize = 4096;
+// How many bytes are copied at once: a row of the largest W.
+const BLOCK: usize = 8192;
 
 // Room for a block. What passes through it overlaps neither its source nor its target, and is compiled to one block move.
-fn block_buffer() -> [u8; 4096]
-    ensures { λ r. ⌜ 4096 ≡ length r ⌝ }
+fn block_buffer() -> [u8; 8192]
+    ensures { λ r. ⌜ 8192 ≡ length r ⌝ }
 {
-    [0u8; 4096]
+    [0u8; 8192]
 }
 
 // Writes bytes into a part from a column on, one by one.
@@ -49,14 +49,14 @@ fn put_each(part: &mut [u8], column: usize, bytes: &[u8])
     }
 }
 
-// Writes a block into a part from a column on.
+// Writes up to a block of bytes into a part from a column on.
 fn put_block(part: &mut [u8], column: usize, bytes: &[u8])
-    requires { ⌜ (length (now bytes) ≡ 4096) × (column + 4096 ≤ length (now part)) ⌝ }
-    ensures { λ _. ⌜ now (part .exit) ≡ paste (now (part .entry)) column (now (bytes .entry)) 4096 ⌝ }
+    requires { ⌜ (length (now bytes) ≤ 8192) × (column + length (now bytes) ≤ length (now part)) ⌝ }
+    ensures { λ _. ⌜ now (part .exit) ≡ paste (now (part .entry)) column (now (bytes .entry)) (length (now (bytes .entry))) ⌝ }
 {
     let mut block = block_buffer();
     put_each(&mut block, 0, bytes);
-    put_each(part, column, &block);
+    put_each(part, column, &block[..bytes.len()]);
 }
 
 // Writes bytes into a part that starts at a row's first byte, from a column on.
@@ -70,7 +70,7 @@ pub fn put_bytes(part: &mut [u8], column: usize, bytes: &[u8])
         put_block(part, column + i, &bytes[i..end]);
         i = end;
     }
-    put_each(part, column + i, &bytes[i..]);
+    put_block(part, column + i, &bytes[i..]);
 }
 
 // Writes bytes into row p from a column on: only the row's part of the store is lent on.
@@ -83,27 +83,15 @@ pub fn write_row(store: &mut [u8], w: usize, p: usize, column: usize, bytes: &[u
     put_bytes(&mut store[start..end], column, bytes);
 }
 
-// Copies n bytes within the store, one by one.
-fn copy_each(store: &mut [u8], from: usize, to: usize, n: usize)
-    requires { ⌜ ((from + n ≤ to) ⊎ (to + n ≤ from)) × (from + n ≤ length (now store)) × (to + n ≤ length (now store)) ⌝ }
+// Copies up to a block within the store.
+fn copy_block(store: &mut [u8], from: usize, to: usize, n: usize)
+    requires { ⌜ (n ≤ 8192) × (from + n ≤ length (now store)) × (to + n ≤ length (now store)) ⌝ }
     ensures { λ _. ⌜ now (store .exit) ≡ paste (now (store .entry)) to (drop from (now (store .entry))) n ⌝ }
 {
-    let mut i: usize = 0;
-    while i < n {
-        store[to + i] = store[from + i];
-        i += 1;
-    }
-}
-
-// Copies a block within the store.
-fn copy_block(store: &mut [u8], from: usize, to: usize)
-    requires { ⌜ (from + 4096 ≤ length (now store)) × (to + 4096 ≤ length (now store)) ⌝ }
-    ensures { λ _. ⌜ now (store .exit) ≡ paste (now (store .entry)) to (drop from (now (store .entry))) 4096 ⌝ }
-{
-    let end = from + BLOCK;
+    let end = from + n;
     let mut block = block_buffer();
     put_each(&mut block, 0, &store[from..end]);
-    put_each(store, to, &block);
+    put_each(store, to, &block[..n]);
 }
 
 // Copies row `source` to row `target` within the store.
@@ -115,8 +103,8 @@ pub fn copy_row(store: &mut [u8], w: usize, source: usize, target: usize)
     let to = target * w;
     let mut i: usize = 0;
     while BLOCK <= w - i {
-        copy_block(store, from + i, to + i);
+        copy_block(store, from + i, to + i, BLOCK);
         i += BLOCK;
     }
-    copy_each(store, from + i, to + i, w - i);
+    copy_block(store, from + i, to + i, w - i);
 }

@@ -1,6 +1,6 @@
 // The tracker: the Misra-Gries tracker of Graphene, as document 01 words it (step 2 of an access), over lent tables.
-// A scan examines blocks of entries without branching, so that it is done with vector instructions, and then searches
-// one by one from the first block that has a hit.
+// A scan examines blocks of 64 entries without branching, so that it is done with vector instructions; from the first
+// block that has a hit it examines blocks of 16, and from the first of those with a hit it searches one by one.
 ghost use mathlib.Core.Path.{_≡_};
 ghost use mathlib.Core.Bool.{false};
 ghost use Prim.Native.Nat.{_+_, _<_, _≤_};
@@ -20,30 +20,32 @@ pub enum Choice {
     Spill(u32),
 }
 
-// Some entry of the block that starts at `at` names the place.
-fn block_names(rows: &[u16], at: usize, place: u16) -> bool
-    requires { ⌜ at + 64 ≤ length (now rows) ⌝ }
-    ensures { λ r. ⌜ r ≡ some (λ x. eqb x place) (take 64 (drop at (now (rows .entry)))) ⌝ }
+// Some entry of the block of that size that starts at `at` names the place.
+fn block_names(rows: &[u16], at: usize, size: usize, place: u16) -> bool
+    requires { ⌜ at + size ≤ length (now rows) ⌝ }
+    ensures { λ r. ⌜ r ≡ some (λ x. eqb x place) (take size (drop at (now (rows .entry)))) ⌝ }
 {
     let mut found = false;
     let mut i: usize = 0;
-    while i < 64 {
+    while i < size {
         found = found | (rows[at + i] == place);
         i += 1;
     }
     found
 }
 
-// The start of the first block with an entry that names the place, or of what is left behind the last whole block.
-fn skip_rows(rows: &[u16], place: u16) -> usize
-    ensures { λ r. ⌜ (r ≤ length (now (rows .entry))) × (indexOf place (now (rows .entry)) ≡ r + indexOf place (drop r (now (rows .entry)))) ⌝ }
+// From `from` on: the start of the first block of that size with an entry that names the place, or of what is left
+// behind the last whole block.
+fn skip_rows(rows: &[u16], from: usize, size: usize, place: u16) -> usize
+    requires { ⌜ (from ≤ length (now rows)) × (1 ≤ size) ⌝ }
+    ensures { λ r. ⌜ (r ≤ length (now (rows .entry))) × (from + indexOf place (drop from (now (rows .entry))) ≡ r + indexOf place (drop r (now (rows .entry)))) ⌝ }
 {
-    let mut at: usize = 0;
-    while 64 <= rows.len() - at {
-        if block_names(rows, at, place) {
+    let mut at = from;
+    while size <= rows.len() - at {
+        if block_names(rows, at, size, place) {
             return at;
         }
-        at += 64;
+        at += size;
     }
     at
 }
@@ -52,7 +54,8 @@ fn skip_rows(rows: &[u16], place: u16) -> usize
 pub fn index_of_row(rows: &[u16], place: u16) -> usize
     ensures { λ r. ⌜ r ≡ indexOf place (now (rows .entry)) ⌝ }
 {
-    let mut i = skip_rows(rows, place);
+    let far = skip_rows(rows, 0, 64, place);
+    let mut i = skip_rows(rows, far, 16, place);
     while i < rows.len() {
         if rows[i] == place {
             return i;
@@ -62,14 +65,14 @@ pub fn index_of_row(rows: &[u16], place: u16) -> usize
     i
 }
 
-// Some count of the block that starts at `at` is the value.
-fn block_counts(counts: &[u32], at: usize, value: u32) -> bool
-    requires { ⌜ at + 64 ≤ length (now counts) ⌝ }
-    ensures { λ r. ⌜ r ≡ some (λ x. eqb x value) (take 64 (drop at (now (counts .entry)))) ⌝ }
+// Some count of the block of that size that starts at `at` is the value.
+fn block_counts(counts: &[u32], at: usize, size: usize, value: u32) -> bool
+    requires { ⌜ at + size ≤ length (now counts) ⌝ }
+    ensures { λ r. ⌜ r ≡ some (λ x. eqb x value) (take size (drop at (now (counts .entry)))) ⌝ }
 {
     let mut found = false;
     let mut i: usize = 0;
-    while i < 64 {
+    while i < size {
         found = found | (counts[at + i] == value);
         i += 1;
     }
@@ -77,15 +80,16 @@ fn block_counts(counts: &[u32], at: usize, value: u32) -> bool
 }
 
 // As `skip_rows`, over the counts.
-fn skip_counts(counts: &[u32], value: u32) -> usize
-    ensures { λ r. ⌜ (r ≤ length (now (counts .entry))) × (indexOf value (now (counts .entry)) ≡ r + indexOf value (drop r (now (counts .entry)))) ⌝ }
+fn skip_counts(counts: &[u32], from: usize, size: usize, value: u32) -> usize
+    requires { ⌜ (from ≤ length (now counts)) × (1 ≤ size) ⌝ }
+    ensures { λ r. ⌜ (r ≤ length (now (counts .entry))) × (from + indexOf value (drop from (now (counts .entry))) ≡ r + indexOf value (drop r (now (counts .entry)))) ⌝ }
 {
-    let mut at: usize = 0;
-    while 64 <= counts.len() - at {
-        if block_counts(counts, at, value) {
+    let mut at = from;
+    while size <= counts.len() - at {
+        if block_counts(counts, at, size, value) {
             return at;
         }
-        at += 64;
+        at += size;
     }
     at
 }
@@ -94,7 +98,8 @@ fn skip_counts(counts: &[u32], value: u32) -> usize
 pub fn index_of_count(counts: &[u32], value: u32) -> usize
     ensures { λ r. ⌜ r ≡ indexOf value (now (counts .entry)) ⌝ }
 {
-    let mut i = skip_counts(counts, value);
+    let far = skip_counts(counts, 0, 64, value);
+    let mut i = skip_counts(counts, far, 16, value);
     while i < counts.len() {
         if counts[i] == value {
             return i;

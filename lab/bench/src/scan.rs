@@ -27,16 +27,20 @@ impl Scan for Plain {
     }
 }
 
-/// Blocks of 64 entries, each examined whole, so that the compiler takes vector instructions; then one by one within
-/// the first block that has a hit, or within what is left behind the last whole block.
+/// Blocks of 64 entries, each examined whole, so that the compiler takes vector instructions; from the first block that
+/// has a hit, or from what is left behind the last whole block, blocks of 16 in the same way; then one by one.
 pub struct Blocks;
 
-const BLOCK: usize = 64;
+/// The start of the first block from `from` on that has a hit, or of what is left behind the last whole block.
+fn skip<T: Copy + PartialEq, const BLOCK: usize>(table: &[T], from: usize, value: T) -> usize {
+    let (blocks, _) = table[from..].as_chunks::<BLOCK>();
+    let whole = blocks.iter().take_while(|block| !block.iter().fold(false, |hit, &x| hit | (x == value))).count();
+    from + whole * BLOCK
+}
 
 fn lowest<T: Copy + PartialEq>(table: &[T], value: T) -> Option<usize> {
-    let (blocks, _) = table.as_chunks::<BLOCK>();
-    let whole = blocks.iter().take_while(|block| !block.iter().fold(false, |hit, &x| hit | (x == value))).count();
-    let from = whole * BLOCK;
+    let far = skip::<T, 64>(table, 0, value);
+    let from = skip::<T, 16>(table, far, value);
     table[from..].iter().position(|&x| x == value).map(|at| from + at)
 }
 

@@ -1,7 +1,6 @@
 -- `calls::inspect_part`: nothing where the number is not 0, else the row's part. Assumes nothing.
-use native.Mathlib.Omega.{arith}
 use Rattle.engine.specs.State.{stateOf}
-use Rattle.calls.proofs.Serves.{part-none, row-small, row-inside, part-inside, part-row}
+use Rattle.calls.proofs.Serves.{part-none, row-located, part-inside, part-row}
 use borrow.Author.Needs.{needs}
 use Rattle.calls.proofs.inspect_part.Statement.{statement}
 use Rattle.calls.proofs.inspect_part.Tie as tie
@@ -18,41 +17,28 @@ returns c =
     let σ = stateOf (a .store .now) (a .forward .now) (a .reverse .now) (a .rows .now) (a .counts .now) (a .control) in
     part-none (a .s) σ (a .row) (c .before .before .inspect-number .result) (c .before .before .inspect-number .ensures) (c .before .if1 .taken)
 
-cast-t14 : tie.Need-cast-t14
-cast-t14 c =
+place-requires : tie.Need-place-requires
+place-requires c κs =
     let a = c .before .before .before .before .before .before .before .args in
     let σ = stateOf (a .store .now) (a .forward .now) (a .reverse .now) (a .rows .now) (a .counts .now) (a .control) in
-    omega (arith, row-small (a .s) σ (a .row) (c .before .inspect-number .result) (c .before .inspect-number .ensures) (c .if1 .left))
-
-mul-t16 : tie.Need-mul-t16
-mul-t16 c = search needs
-
-shared-slice-read-t18 : tie.Need-shared-slice-read-t18
-shared-slice-read-t18 c =
-    let a = c .before .before .before .before .before .before .before .before .args in
-    let σ = stateOf (a .store .now) (a .forward .now) (a .reverse .now) (a .rows .now) (a .counts .now) (a .control) in
-    row-inside (a .s) σ (a .row) (c .before .before .inspect-number .result) (c .before .before .inspect-number .ensures) (c .before .if1 .left)
-
-place-of-requires : tie.Need-place-of-requires
-place-of-requires c κs = search needs
+    row-located (a .s) σ (a .row) (c .before .inspect-number .result) (c .before .inspect-number .ensures) (c .if1 .left)
 
 cast-row-part : tie.Need-cast-row-part
 cast-row-part c = search needs
 
 row-part-requires : tie.Need-row-part-requires
 row-part-requires c κs =
-    let a = c .before .before .before .before .before .before .before .before .before .before .args in
+    let a = c .before .before .before .before .before .before .before .before .before .args in
     let σ = stateOf (a .store .now) (a .forward .now) (a .reverse .now) (a .rows .now) (a .counts .now) (a .control) in
-    part-inside (a .s) σ (a .row) (c .before .before .before .before .inspect-number .result) (c .before .before .before .before .inspect-number .ensures)
-    (c .before .before .before .if1 .left) (c .before .place-of .result) (c .before .place-of .ensures)
+    part-inside (a .s) σ (a .row) (c .before .before .before .inspect-number .result) (c .before .before .before .inspect-number .ensures) (c .before .before .if1 .left)
+    (c .before .place .result) (c .before .place .ensures)
 
 returns-2 : tie.Need-returns-2
 returns-2 c =
-    let a = c .before .before .before .before .before .before .before .before .before .before .before .args in
+    let a = c .before .before .before .before .before .before .before .before .before .before .args in
     let σ = stateOf (a .store .now) (a .forward .now) (a .reverse .now) (a .rows .now) (a .counts .now) (a .control) in
-    part-row (a .s) σ (a .row) (c .before .before .before .before .before .inspect-number .result)
-    (c .before .before .before .before .before .inspect-number .ensures) (c .before .before .before .before .if1 .left)
-    (c .before .before .place-of .result) (c .before .before .place-of .ensures) _ (c .row-part .ensures)
+    part-row (a .s) σ (a .row) (c .before .before .before .before .inspect-number .result) (c .before .before .before .before .inspect-number .ensures)
+    (c .before .before .before .if1 .left) (c .before .before .place .result) (c .before .before .place .ensures) _ (c .row-part .ensures)
 
 pub inspect-part-spec : {M : Type 1} → statement M
 inspect-part-spec =
@@ -61,10 +47,7 @@ inspect-part-spec =
     inspect-number-requires
     slice-aggregate-result
     returns
-    cast-t14
-    mul-t16
-    shared-slice-read-t18
-    place-of-requires
+    place-requires
     cast-row-part
     row-part-requires
     returns-2)

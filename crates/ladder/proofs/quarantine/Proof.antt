@@ -28,7 +28,7 @@ add-if1 c =
 returns : tie.Need-returns
 returns c =
     let a = c .before .before .before .before .before .before .args in
-    no-room (a .s) (a .control) (a .entry .0) (a .place) (a .choice) (a .forward .now) (a .reverse .now) _
+    no-room (a .s) (a .control) (a .entry .0) (a .forward .now) (a .reverse .now) _
     (omega (arith, c .if1 .taken, c .before .before .before .rise .ensures))
 
 destination-requires : tie.Need-destination-requires
@@ -37,11 +37,11 @@ destination-requires c κs = search needs
 cast-at : tie.Need-cast-at
 cast-at c = search needs
 
-mul-t15 : tie.Need-mul-t15
-mul-t15 c = search needs
+mul-t13 : tie.Need-mul-t13
+mul-t13 c = search needs
 
-shared-slice-read-t17 : tie.Need-shared-slice-read-t17
-shared-slice-read-t17 c =
+shared-slice-read-t15 : tie.Need-shared-slice-read-t15
+shared-slice-read-t15 c =
     let a = c .before .before .before .before .before .before .before .before .args in
     omega (arith, c .before .destination .ensures, destination-from-in (a .s) (a .control .head) (a .entry .0) (omega arith))
 
@@ -51,16 +51,16 @@ points-back-requires c κs = search needs
 returns-2 : tie.Need-returns-2
 returns-2 c =
     let a = c .before .before .before .before .before .before .before .before .before .before .args in
-    unsound (a .s) (a .control) (a .entry .0) (a .place) (a .choice) (a .forward .now) (a .reverse .now) (c .before .before .before .destination .result)
+    unsound (a .s) (a .control) (a .entry .0) (a .forward .now) (a .reverse .now) (c .before .before .before .destination .result)
     (omega (arith, c .before .before .before .before .if1 .left, c .before .before .before .before .before .before .before .rise .ensures))
     (getD (a .reverse .now) (c .before .before .before .destination .result) 0)
     (getD-any (a .reverse .now) (c .before .before .before .destination .result) 0 empty (omega (arith, c .before .before .before .destination .ensures, destination-from-in (a .s) (a .control .head) (a .entry .0) (omega arith))))
     (told-not (c .before .points-back .ensures) (c .if2 .taken))
-    ∙ ap (λ (d : ℕ). quarantineOf (a .s) (a .control) (a .entry .0) (a .place) (a .choice) (a .forward .now) (a .reverse .now) d)
+    ∙ ap (λ (d : ℕ). quarantineOf (a .s) (a .control) (a .entry .0) (a .forward .now) (a .reverse .now) d)
     (c .before .before .before .destination .ensures)
 
-cast-t17 : tie.Need-cast-t17
-cast-t17 c =
+cast-t15 : tie.Need-cast-t15
+cast-t15 c =
     let a = c .before .before .before .before .before .before .before .before .before .before .args in
     omega (arith, c .before .before .before .destination .ensures, destination-from-in (a .s) (a .control .head) (a .entry .0) (omega arith))
 
@@ -70,13 +70,13 @@ is-empty-requires c κs = search needs
 returns-3 : tie.Need-returns-3
 returns-3 c =
     let a = c .before .before .before .before .before .before .before .before .before .before .before .before .args in
-    sound-to (a .s) (a .control) (a .entry .0) (a .place) (a .choice) (a .forward .now) (a .reverse .now)
+    sound-to (a .s) (a .control) (a .entry .0) (a .forward .now) (a .reverse .now)
     (c .before .before .before .before .before .destination .result)
     (omega (arith, c .before .before .before .before .before .before .if1 .left, c .before .before .before .before .before .before .before .before .before .rise .ensures))
     (getD (a .reverse .now) (c .before .before .before .before .before .destination .result) 0)
     (getD-any (a .reverse .now) (c .before .before .before .before .before .destination .result) 0 empty (omega (arith, c .before .before .before .before .before .destination .ensures, destination-from-in (a .s) (a .control .head) (a .entry .0) (omega arith))))
     (told-yes (c .before .before .before .points-back .ensures) (c .before .before .if2 .left)) (sym (c .before .is-empty .ensures) ∙ c .if3 .taken)
-    ∙ ap (λ (d : ℕ). quarantineOf (a .s) (a .control) (a .entry .0) (a .place) (a .choice) (a .forward .now) (a .reverse .now) d)
+    ∙ ap (λ (d : ℕ). quarantineOf (a .s) (a .control) (a .entry .0) (a .forward .now) (a .reverse .now) d)
     (c .before .before .before .before .before .destination .ensures)
 
 row-requires : tie.Need-row-requires
@@ -85,16 +85,16 @@ row-requires c κs = search needs
 returns-4 : tie.Need-returns-4
 returns-4 c =
     let a = c .before .before .before .before .before .before .before .before .before .before .before .before .before .args in
-    ap (λ (v : VisibleRow). Go (a .place) (a .choice) (OverSlot (slot (c .before .before .before .before .before .before .destination .result)) v))
+    ap (λ (v : VisibleRow). Go (OverSlot (slot (c .before .before .before .before .before .before .destination .result)) v))
     (c .row .ensures)
-    ∙ sound-over (a .s) (a .control) (a .entry .0) (a .place) (a .choice) (a .forward .now) (a .reverse .now)
+    ∙ sound-over (a .s) (a .control) (a .entry .0) (a .forward .now) (a .reverse .now)
     (c .before .before .before .before .before .before .destination .result)
     (omega (arith, c .before .before .before .before .before .before .before .if1 .left, c .before .before .before .before .before .before .before .before .before .before .rise .ensures))
     (getD (a .reverse .now) (c .before .before .before .before .before .before .destination .result) 0)
     (getD-any (a .reverse .now) (c .before .before .before .before .before .before .destination .result) 0 empty (omega (arith, c .before .before .before .before .before .before .destination .ensures, destination-from-in (a .s) (a .control .head) (a .entry .0) (omega arith))))
     (told-yes (c .before .before .before .before .points-back .ensures) (c .before .before .before .if2 .left))
     (sym (c .before .before .is-empty .ensures) ∙ c .before .if3 .left)
-    ∙ ap (λ (d : ℕ). quarantineOf (a .s) (a .control) (a .entry .0) (a .place) (a .choice) (a .forward .now) (a .reverse .now) d)
+    ∙ ap (λ (d : ℕ). quarantineOf (a .s) (a .control) (a .entry .0) (a .forward .now) (a .reverse .now) d)
     (c .before .before .before .before .before .before .destination .ensures)
 
 pub quarantine-spec : {M : Type 1} → statement M
@@ -106,11 +106,11 @@ quarantine-spec =
     returns
     destination-requires
     cast-at
-    mul-t15
-    shared-slice-read-t17
+    mul-t13
+    shared-slice-read-t15
     points-back-requires
     returns-2
-    cast-t17
+    cast-t15
     is-empty-requires
     returns-3
     row-requires

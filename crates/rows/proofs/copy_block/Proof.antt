@@ -1,9 +1,9 @@
 -- `rows::copy_block` meets its contract: what passes through the block is pasted. Assumes nothing.
 use Prim.Native.Nat.{_+_, _-_}
-use mathlib.Core.Path.{_∙_}
+use mathlib.Core.Path.{sym, _∙_}
 use native.Mathlib.Omega.{arith}
 use lib.ListN.{take, drop}
-use lib.Seq.{take-take}
+use lib.Seq.{take-take, length-take-le}
 use borrow.Author.Needs.{needs}
 use Rattle.rows.proofs.Pastes.{paste-through, paste-alike}
 use Rattle.rows.proofs.copy_block.Statement.{statement}
@@ -30,11 +30,14 @@ part-put-each-end c = search needs
 put-each-requires : tie.Need-put-each-requires
 put-each-requires c κs = search needs
 
+array-share-prefix-block : tie.Need-array-share-prefix-block
+array-share-prefix-block c = search needs
+
 slice-aggregate-put-each-2 : tie.Need-slice-aggregate-put-each-2
-slice-aggregate-put-each-2 c = search needs
+slice-aggregate-put-each-2 c = sym (length-take-le _ _ (search needs))
 
 put-each-requires-2 : tie.Need-put-each-requires-2
-put-each-requires-2 c κs = search needs
+put-each-requires-2 c κs = omega (arith, slice-aggregate-put-each-2 c)
 
 same-length : tie.Need-same-length
 same-length c = search needs
@@ -44,10 +47,10 @@ returns c =
     let a = c .before .before .before .before .before .before .before .before .before .before .before .before .args in
     let store = a .store .now in
     let row = drop (a .from) store in
-    let n = a .from + 4096 - a .from in
-    paste-through store (a .to) (take n row) 4096 _ (search needs) (search needs)
+    let n = a .from + a .n - a .from in
+    paste-through store (a .to) (take n row) (a .n) _ (search needs) (search needs)
     (c .before .before .before .before .before .before .put-each .ensures) (c .before .before .put-each2 .ensures)
-    ∙ paste-alike store (a .to) (take n row) row 4096 (take-take 4096 n row (omega arith))
+    ∙ paste-alike store (a .to) (take n row) row (a .n) (take-take (a .n) n row (omega arith))
 
 pub copy-block-spec : {M : Type 1} → statement M
 copy-block-spec =
@@ -60,6 +63,7 @@ copy-block-spec =
     part-put-each-start
     part-put-each-end
     put-each-requires
+    array-share-prefix-block
     slice-aggregate-put-each-2
     put-each-requires-2
     same-length

@@ -1,6 +1,5 @@
 -- `rows::copy_row` meets its contract: each turn copies a block, and the rest comes last. Assumes nothing.
-use Prim.Native.Nat.{_+_, _-_, _*_, _≤_}
-use mathlib.Core.Logic.{_⊎_, inl, inr}
+use Prim.Native.Nat.{_-_, _*_}
 use native.Mathlib.Omega.{arith}
 use lib.ListN.{drop}
 use borrow.Author.Needs.{needs}
@@ -47,28 +46,20 @@ loop-again : tie.Need-loop-again Inv-loop μ-loop
 loop-again c =
     let a = c .before .before .before .before .before .before .before .args in
     let pre = c .before .before .before .before .before .before .before .pre in
-    pasting-copy (a .store .now) (a .source * a .w) (a .target * a .w) (a .w) 4096 (pre .1) (pre .2) (rows-apart (a .w) (a .target) (a .source) (pre .0))
+    pasting-copy (a .store .now) (a .source * a .w) (a .target * a .w) (a .w) 8192 (pre .1) (pre .2) (rows-apart (a .w) (a .target) (a .source) (pre .0))
     (search needs) (c .before .before .copy-block .ensures) (c .before .before .before .before .before .loop .inv)
 
-add-copy-each : tie.Need-add-copy-each Inv-loop μ-loop
-add-copy-each c = search needs
+add-copy-block-3 : tie.Need-add-copy-block-3 Inv-loop μ-loop
+add-copy-block-3 c = search needs
 
-add-copy-each-2 : tie.Need-add-copy-each-2 Inv-loop μ-loop
-add-copy-each-2 c = search needs
+add-copy-block-4 : tie.Need-add-copy-block-4 Inv-loop μ-loop
+add-copy-block-4 c = search needs
 
-sub-copy-each : tie.Need-sub-copy-each Inv-loop μ-loop
-sub-copy-each c = search needs
+sub-copy-block : tie.Need-sub-copy-block Inv-loop μ-loop
+sub-copy-block c = search needs
 
-copy-each-requires : tie.Need-copy-each-requires Inv-loop μ-loop
-copy-each-requires c κs =
-    let a = c .before .before .before .before .args in
-    let i = c .before .before .loop .i in
-    let from = a .source * a .w in
-    let to = a .target * a .w in
-    let apart : (from + i + (a .w - i) ≤ to + i) ⊎ (to + i + (a .w - i) ≤ from + i) =
-    elim (rows-apart (a .w) (a .target) (a .source) (c .before .before .before .before .pre .0)) [ inl before ↦ inl (omega arith) | inr behind ↦ inr (omega arith) ]
-    in
-    (apart, omega arith, omega arith)
+copy-block-requires-2 : tie.Need-copy-block-requires-2 Inv-loop μ-loop
+copy-block-requires-2 c κs = search needs
 
 same-length : tie.Need-same-length Inv-loop μ-loop
 same-length c = search needs
@@ -83,7 +74,7 @@ returns c =
     let to = a .target * a .w in
     let inv = c .before .before .before .before .before .loop .inv in
     let rest = a .w - c .before .before .before .before .before .loop .i in
-    let all = pasting-copy store from to (a .w) rest (pre .1) (pre .2) (rows-apart (a .w) (a .target) (a .source) (pre .0)) (omega (arith, inv .turns)) (c .before .before .copy-each .ensures) inv in
+    let all = pasting-copy store from to (a .w) rest (pre .1) (pre .2) (rows-apart (a .w) (a .target) (a .source) (pre .0)) (omega (arith, inv .turns)) (c .before .before .copy-block2 .ensures) inv in
     pasting-all store to (drop from store) (a .w) all (omega arith)
 
 pub copy-row-spec : {M : Type 1} → statement M
@@ -102,9 +93,9 @@ copy-row-spec =
     add-i
     loop-less
     loop-again
-    add-copy-each
-    add-copy-each-2
-    sub-copy-each
-    copy-each-requires
+    add-copy-block-3
+    add-copy-block-4
+    sub-copy-block
+    copy-block-requires-2
     same-length
     returns)

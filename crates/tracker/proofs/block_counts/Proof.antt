@@ -11,10 +11,10 @@ use Rattle.tracker.proofs.block_counts.Statement.{statement}
 use Rattle.tracker.proofs.block_counts.Tie as tie
 
 abbrev Inv-loop : tie.InvT-loop
-Inv-loop counts at value found₀ i₀ found i = (i ≤ 64) × (found ≡ some (λ x. eqb x value) (take i (drop at counts)))
+Inv-loop counts at size value found₀ i₀ found i = (i ≤ size) × (found ≡ some (λ x. eqb x value) (take i (drop at counts)))
 
 abbrev μ-loop : tie.MeasureT-loop
-μ-loop counts at value found₀ i₀ found i = 64 - i
+μ-loop counts at size value found₀ i₀ found i = size - i
 
 loop-holds : tie.Need-loop-holds Inv-loop μ-loop
 unfolding some
@@ -45,7 +45,7 @@ returns : tie.Need-returns Inv-loop μ-loop
 returns c =
     let a = c .before .before .args in
     let l = c .before .loop in
-    l .inv .1 ∙ block-end (λ x. eqb x (a .value)) (a .counts .now) (a .at) (l .i) 64 (omega arith)
+    l .inv .1 ∙ block-end (λ x. eqb x (a .value)) (a .counts .now) (a .at) (l .i) (a .size) (omega arith)
 
 pub block-counts-spec : {M : Type 1} → statement M
 block-counts-spec =

@@ -11,10 +11,10 @@ use Rattle.tracker.proofs.block_names.Statement.{statement}
 use Rattle.tracker.proofs.block_names.Tie as tie
 
 abbrev Inv-loop : tie.InvT-loop
-Inv-loop rows at place found₀ i₀ found i = (i ≤ 64) × (found ≡ some (λ x. eqb x place) (take i (drop at rows)))
+Inv-loop rows at size place found₀ i₀ found i = (i ≤ size) × (found ≡ some (λ x. eqb x place) (take i (drop at rows)))
 
 abbrev μ-loop : tie.MeasureT-loop
-μ-loop rows at place found₀ i₀ found i = 64 - i
+μ-loop rows at size place found₀ i₀ found i = size - i
 
 loop-holds : tie.Need-loop-holds Inv-loop μ-loop
 unfolding some
@@ -45,7 +45,7 @@ returns : tie.Need-returns Inv-loop μ-loop
 returns c =
     let a = c .before .before .args in
     let l = c .before .loop in
-    l .inv .1 ∙ block-end (λ x. eqb x (a .place)) (a .rows .now) (a .at) (l .i) 64 (omega arith)
+    l .inv .1 ∙ block-end (λ x. eqb x (a .place)) (a .rows .now) (a .at) (l .i) (a .size) (omega arith)
 
 pub block-names-spec : {M : Type 1} → statement M
 block-names-spec =

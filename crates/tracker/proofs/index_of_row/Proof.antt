@@ -11,13 +11,16 @@ use Rattle.tracker.proofs.index_of_row.Statement.{statement}
 use Rattle.tracker.proofs.index_of_row.Tie as tie
 
 abbrev Inv-loop : tie.InvT-loop
-Inv-loop rows place i₀ i = (i ≤ length rows) × (indexOf place rows ≡ i + indexOf place (drop i rows))
+Inv-loop rows place far i₀ i = (i ≤ length rows) × (indexOf place rows ≡ i + indexOf place (drop i rows))
 
 abbrev μ-loop : tie.MeasureT-loop
-μ-loop rows place i₀ i = length rows - i
+μ-loop rows place far i₀ i = length rows - i
 
 skip-rows-requires : tie.Need-skip-rows-requires Inv-loop μ-loop
 skip-rows-requires c κs = search needs
+
+skip-rows-requires-2 : tie.Need-skip-rows-requires-2 Inv-loop μ-loop
+skip-rows-requires-2 c κs = search needs
 
 loop-holds : tie.Need-loop-holds Inv-loop μ-loop
 loop-holds c = search needs
@@ -30,7 +33,7 @@ shared-slice-read-if1 c = search needs
 
 returns : tie.Need-returns Inv-loop μ-loop
 returns c =
-    let a = c .before .before .before .before .before .before .args in
+    let a = c .before .before .before .before .before .before .before .args in
     let l = c .before .before .before .loop in
     lowest-stop (λ x. eqb x (a .place)) (a .rows .now) (l .i) (l .inv .1) (lowest-here (λ x. eqb x (a .place)) (a .rows .now) (l .i) (eq-eqb _ _ (c .if1 .taken)) (search needs))
 
@@ -42,13 +45,13 @@ loop-less c = search needs
 
 loop-again : tie.Need-loop-again Inv-loop μ-loop
 loop-again c =
-    let a = c .before .before .before .before .before .before .args in
+    let a = c .before .before .before .before .before .before .before .args in
     let l = c .before .before .before .loop in
     (search needs, l .inv .1 ∙ lowest-next (λ x. eqb x (a .place)) (a .rows .now) (l .i) (search needs) (ne-eqb _ _ (c .if1 .left)))
 
 returns-2 : tie.Need-returns-2 Inv-loop μ-loop
 returns-2 c =
-    let a = c .before .before .before .before .args in
+    let a = c .before .before .before .before .before .args in
     let l = c .before .loop in
     lowest-stop (λ x. eqb x (a .place)) (a .rows .now) (l .i) (l .inv .1) (lowest-end (λ x. eqb x (a .place)) (a .rows .now) (l .i) (search needs))
 
@@ -59,6 +62,7 @@ index-of-row-spec =
     Inv-loop
     μ-loop
     skip-rows-requires
+    skip-rows-requires-2
     loop-holds
     mul-if1
     shared-slice-read-if1

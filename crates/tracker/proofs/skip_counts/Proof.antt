@@ -1,7 +1,6 @@
--- `tracker::skip_counts` meets its contract. Invariant: the search of the whole is `at` and the search of the rest. Assumes nothing.
+-- `tracker::skip_counts` meets its contract. Invariant: the search from `from` on ends where the search from `at` on does. Assumes nothing.
 use Prim.Native.Nat.{_≤_, _+_, _-_}
-use mathlib.Core.Path.{_≡_, sym, _∙_}
-use native.Mathlib.Omega.{arith}
+use mathlib.Core.Path.{_≡_, refl, sym, _∙_}
 use lib.Dec.{eqb}
 use lib.ListN.{length, drop}
 use borrow.Author.Needs.{needs}
@@ -11,13 +10,13 @@ use Rattle.tracker.proofs.skip_counts.Statement.{statement}
 use Rattle.tracker.proofs.skip_counts.Tie as tie
 
 abbrev Inv-loop : tie.InvT-loop
-Inv-loop counts value at₀ at = (at ≤ length counts) × (indexOf value counts ≡ at + indexOf value (drop at counts))
+Inv-loop counts from size value at₀ at = (at ≤ length counts) × (from + indexOf value (drop from counts) ≡ at + indexOf value (drop at counts))
 
 abbrev μ-loop : tie.MeasureT-loop
-μ-loop counts value at₀ at = length counts - at
+μ-loop counts from size value at₀ at = length counts - at
 
 loop-holds : tie.Need-loop-holds Inv-loop μ-loop
-loop-holds c = (search needs, omega arith)
+loop-holds c = (search needs, refl)
 
 sub-loop : tie.Need-sub-loop Inv-loop μ-loop
 sub-loop c = search needs
@@ -39,7 +38,7 @@ loop-again c =
     let a = c .before .before .before .before .before .args in
     let l = c .before .before .before .loop in
     let none = sym (c .before .block-counts .ensures) ∙ c .if1 .left in
-    (search needs, l .inv .1 ∙ lowest-skip (λ x. eqb x (a .value)) (a .counts .now) (l .at) 64 (search needs) none)
+    (search needs, l .inv .1 ∙ lowest-skip (λ x. eqb x (a .value)) (a .counts .now) (l .at) (a .size) (search needs) none)
 
 returns-2 : tie.Need-returns-2 Inv-loop μ-loop
 returns-2 c = c .before .loop .inv

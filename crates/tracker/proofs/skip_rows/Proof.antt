@@ -1,7 +1,6 @@
--- `tracker::skip_rows` meets its contract. Invariant: the search of the whole is `at` and the search of the rest. Assumes nothing.
+-- `tracker::skip_rows` meets its contract. Invariant: the search from `from` on ends where the search from `at` on does. Assumes nothing.
 use Prim.Native.Nat.{_≤_, _+_, _-_}
-use mathlib.Core.Path.{_≡_, sym, _∙_}
-use native.Mathlib.Omega.{arith}
+use mathlib.Core.Path.{_≡_, refl, sym, _∙_}
 use lib.Dec.{eqb}
 use lib.ListN.{length, drop}
 use borrow.Author.Needs.{needs}
@@ -11,13 +10,13 @@ use Rattle.tracker.proofs.skip_rows.Statement.{statement}
 use Rattle.tracker.proofs.skip_rows.Tie as tie
 
 abbrev Inv-loop : tie.InvT-loop
-Inv-loop rows place at₀ at = (at ≤ length rows) × (indexOf place rows ≡ at + indexOf place (drop at rows))
+Inv-loop rows from size place at₀ at = (at ≤ length rows) × (from + indexOf place (drop from rows) ≡ at + indexOf place (drop at rows))
 
 abbrev μ-loop : tie.MeasureT-loop
-μ-loop rows place at₀ at = length rows - at
+μ-loop rows from size place at₀ at = length rows - at
 
 loop-holds : tie.Need-loop-holds Inv-loop μ-loop
-loop-holds c = (search needs, omega arith)
+loop-holds c = (search needs, refl)
 
 sub-loop : tie.Need-sub-loop Inv-loop μ-loop
 sub-loop c = search needs
@@ -39,7 +38,7 @@ loop-again c =
     let a = c .before .before .before .before .before .args in
     let l = c .before .before .before .loop in
     let none = sym (c .before .block-names .ensures) ∙ c .if1 .left in
-    (search needs, l .inv .1 ∙ lowest-skip (λ x. eqb x (a .place)) (a .rows .now) (l .at) 64 (search needs) none)
+    (search needs, l .inv .1 ∙ lowest-skip (λ x. eqb x (a .place)) (a .rows .now) (l .at) (a .size) (search needs) none)
 
 returns-2 : tie.Need-returns-2 Inv-loop μ-loop
 returns-2 c = c .before .loop .inv
