@@ -1,14 +1,16 @@
 /* AQUA row quarantine engine, one rank: the calls for firmware in C.
  *
- * Link target/staticlib/librank.a, which `rt staticlib rank` proves and writes; it needs memmove and memset. Every call takes any argument and answers
- * by a number, 0 where it is accepted. A call that is refused leaves the control record, everything lent and the read
- * buffer as they were.
+ * Link target/staticlib/librank.a, which `rt staticlib rank` proves and writes. It is for x86-64 and needs memmove and
+ * memset of the C library. Every call takes any argument and answers by a number, 0 where it is accepted. A call that is
+ * refused leaves the control record, everything lent and the read buffer as they were.
  *
  * The caller lends, at each call the same memory as the last call left it:
  *   store    (n + q) * w bytes
  *   forward  n 16-bit numbers       reverse  q 16-bit numbers
  *   rows     k 16-bit numbers       counts   k 32-bit numbers
- * A length counts elements, not bytes. Pointers must not be null and must not overlap, also where a length is 0.
+ * A length counts elements, not bytes. What the caller must keep to, since no call can test it: a pointer is not null, also
+ * where its length is 0; at it lie at least as many elements as its length says; what is lent does not overlap; and nobody
+ * else writes it while a call runs.
  *
  * Refusal numbers, the first that applies:
  *   1  a setting is outside its range        2  l is a * (k + 1) or more
@@ -96,8 +98,8 @@ uint32_t aqua_inspect_number(const aqua_control *control, aqua_settings settings
                              const uint16_t *reverse, size_t reverse_length, const uint16_t *rows, size_t rows_length,
                              const uint32_t *counts, size_t counts_length);
 
-/* and where the row lies in the store at present; length 0 exactly where the number is not 0. */
-aqua_span aqua_inspect_span(aqua_control control, aqua_settings settings, uint32_t row, const uint8_t *store,
+/* and where the row lies in the store at present: w bytes from start on, 0 and 0 where the number is not 0. */
+aqua_span aqua_inspect_span(const aqua_control *control, aqua_settings settings, uint32_t row, const uint8_t *store,
                             size_t store_length, const uint16_t *forward, size_t forward_length,
                             const uint16_t *reverse, size_t reverse_length, const uint16_t *rows, size_t rows_length,
                             const uint32_t *counts, size_t counts_length);

@@ -42,6 +42,10 @@ static uint32_t tick(void) {
     return aqua_tick(&control, settings, store, sizeof store, forward, N, reverse, Q, rows, K, counts, K);
 }
 
+static aqua_span inspect_span(uint32_t row) {
+    return aqua_inspect_span(&control, settings, row, store, sizeof store, forward, N, reverse, Q, rows, K, counts, K);
+}
+
 /* a number, or a dash for none */
 static void field(char *line, size_t size, int some, uint64_t value) {
     size_t at = strlen(line);
@@ -86,9 +90,10 @@ static void bytes(void) {
     expect(o.number == 0 && o.slot == 0 && buffer[0] == 42, "the read that moves the row returns the byte");
     expect(aqua_inspect_number(&control, settings, 1, store, sizeof store, forward, N, reverse, Q, rows, K, counts,
                                K) == 0, "inspect is accepted");
-    aqua_span span = aqua_inspect_span(control, settings, 1, store, sizeof store, forward, N, reverse, Q, rows, K,
-                                       counts, K);
+    aqua_span span = inspect_span(1);
     expect(span.length == W && span.start == (N + 0) * W && store[span.start] == 42, "the row lies in slot 0");
+    span = inspect_span(N);
+    expect(span.length == 0 && span.start == 0, "row N lies nowhere");
     expect(read_row(N, buffer).number == 5, "row N gets 5");
 }
 

@@ -127,7 +127,7 @@ class Walk:
             passed = f'(and-then ! (load ! (from ! (stop !)) (look ! {self.at(local)} refl)) {passed})'
         self.step(f'calls-at ! fm (Core 𝓤 H A at-mem run) known to-core {passed} (λ v.')
         row = self.answer.row if self.mutable else '(typeAt (core.signature .result) (κs .1))'
-        self.step('answered ! tt core.ended (core.clauses 𝓤 H A at-mem run) to-core v '
+        self.step('after-core ! tt core.ended (core.clauses 𝓤 H A at-mem run) to-core v '
                   f'(λ r ws. peeks ! {row} (Is {row}) (shows 𝓤 H A {row}) r (v ∷ []) (λ is.')
         if self.mutable:
             self.above = 8
@@ -174,7 +174,7 @@ def imports(crate, name, core, walk):
     record, own = walk.record, f'Rattle.{crate}.proofs.'
     declared = f'Rattle.{record.home[0]}{"·specs" if record.home[0] == crate else ""}.specs.declared.'
     lines = [f'-- `{crate}::{name}` meets its contract: the entry over `{core}`. The contract is the core\'s, with the record '
-             'behind the borrow for the record by value; what the core ensures is handed on as it stands (`Entry.antt`, `Passed.antt`).',
+             'behind the borrow for the record by value; what the core ensures is handed on as it stands (`Entry.antt`, `HandedOn.antt`).',
              '-- Assumes nothing.', f'use {own}Prelude.{{@prelude@}}', 'use denote.Struct.Laws as LL',
              f'use {declared}{record.name}.{{{record.name} as {record.name}-of}}']
     structs = {v.name: v for v in [record, walk.answer, *walk.rest, walk.result] if isinstance(v, Struct)}

@@ -1,12 +1,11 @@
 -- What was decided of an accepted access is what the code needs to settle it, and settling leaves what the steps say.
 -- Assumes nothing.
-use Prim.Native.Nat.{ℕ, suc, _+_, _<_}
-use native.Mathlib.Numerals.{add-one}
+use Prim.Native.Nat.{ℕ, _+_, _<_}
 use native.Mathlib.Omega.{arith}
 use mathlib.Core.Path.{_≡_, sym, ap, _∙_}
 use mathlib.Core.Logic.{_⊎_, inl, inr}
-use mathlib.Core.Bool.{true}
-use mathlib.Core.List.{List}
+use mathlib.Core.Bool.{false}
+use mathlib.Core.List.{List, []}
 use lib.ListN.{length}
 use borrow.Author.Tests.{eq-eqb, ne-eqb}
 use Rattle.geometry.specs.declared.Settings.{Settings}
@@ -22,22 +21,22 @@ use Rattle.tracker.proofs.Choices.{follow-choice, within-choice, within-choice-
 use Rattle.engine.specs.declared.Move.{Move}
 use Rattle.engine.specs.declared.Move.the-variants.{Stayed}
 use Rattle.engine.specs.State.{State, stateOf, lengthsOf, forwardOf}
-use Rattle.engine.specs.Steps.{place, tracked, move, destination, settled, storeAfter, forwardAfter, reverseAfter, headAfter, passedAfter, rise}
+use Rattle.engine.specs.Steps.{place, tracked, move, destination, controlCounted, relocated, settled}
 use Rattle.engine.specs.Ladder.{accessNumber}
-use Rattle.calls.specs.Settling.{counted, Tables, tablesOf, relocated, Movable, Relocatable}
-use Rattle.engine.proofs.Facts.{Accepted, accepted, Steady, steady, row-sound, slot-sound, RowSound}
+use Rattle.calls.specs.Settling.{Movable, Relocatable}
+use Rattle.engine.proofs.Facts.{Accepted, accepted, Steady, steady, row-sound, slot-sound, place-below, RowSound}
 use Rattle.engine.proofs.Moves.{Plan, rests, fills, evicts, plan, destination-in, destination-free}
 
 -- an accepted access with what was decided of it
 pub record Decided (S : Settings) (σ : State) (r : ℕ) (p : PhysicalRow) (way : Choice) (m : Move) : Type 0 where
-  pub accepted : accessNumber S σ r true ≡ 0
+  pub accepted : accessNumber S σ r false ≡ 0
   pub placed : p ≡ physical (place S σ r)
   pub chosen : way ≡ choiceOf (place S σ r) (σ .rows) (σ .counts) (σ .control .spill)
   pub decided : m ≡ move S σ r
 
 module _ {S : Settings} {σ : State} {r : ℕ} {p : PhysicalRow} {way : Choice} {m : Move} (D : Decided S σ r p way m) where
-  A : Accepted S σ r true
-  A = accepted S σ r true (D .accepted)
+  A : Accepted S σ r false
+  A = accepted S σ r false (D .accepted)
 
   R : Ranges S
   R = ranges-facts S (A .reached .fit .ranges)
@@ -59,7 +58,7 @@ module _ {S : Settings} {σ : State} {r : ℕ} {p : PhysicalRow} {way : Choice} 
       ]
 
   place-in : place S σ r < S .n + S .q
-  place-in = elim place-is [ inl c ↦ omega (arith, c .1, A .reached .row-in) | inr c ↦ omega (arith, c .0, c .1) ]
+  place-in = place-below S σ r R (A .reached .row-in) (A .reached .pointers)
 
   -- ---- what the code's casts and calls ask
 
@@ -82,8 +81,12 @@ module _ {S : Settings} {σ : State} {r : ℕ} {p : PhysicalRow} {way : Choice} 
 
   -- ---- the move
 
+  -- what is lent to it
+  abbrev lent : Control → State
+  lent control = stateOf (σ .store) (σ .forward) (σ .reverse) [] [] control
+
   module _ (control : Control) (same : control .passed ≡ σ .control .passed) where
-    movable : Movable S r (place S σ r) (destination S σ r) (tablesOf (σ .store) (σ .forward) (σ .reverse) control)
+    movable : Movable S r (place S σ r) (destination S σ r) (lent control)
     movable =
         record {
           ranges = A .reached .fit .ranges;
@@ -101,7 +104,7 @@ module _ {S : Settings} {σ : State} {r : ℕ} {p : PhysicalRow} {way : Choice} 
           passed-in = omega (arith, same, K .passed-in);
         }
 
-    by-plan : (n : Move) → Plan S σ r n → Relocatable S r (place S σ r) n (tablesOf (σ .store) (σ .forward) (σ .reverse) control)
+    by-plan : (n : Move) → Plan S σ r n → Relocatable S r (place S σ r) n (lent control)
     by-plan n (rests e) = tt
     by-plan n (fills e vacant) = movable
     by-plan n (evicts e full) =
@@ -110,12 +113,14 @@ module _ {S : Settings} {σ : State} {r : ℕ} {p : PhysicalRow} {way : Choice} 
           | inr c ↦ (movable, (c .0, λ v. destination-free S (σ .control .head) (forwardOf σ r) (R .q-low) (K .head-in) (sym (c .1) ∙ ap (forwardOf σ) v)))
         ]
 
-    pub relocatable : Relocatable S r (p .0) m (tablesOf (σ .store) (σ .forward) (σ .reverse) control)
+    pub relocatable : Relocatable S r (p .0) m (lent control)
     relocatable = rw (D .placed, D .decided) (by-plan (move S σ r) (plan S σ r))
 
   -- ---- what is left: the tracker's part and the control record between by `count`, the rest by `relocate`
 
-  module _ (rows counts : List ℕ) (between : Control) (followed-is : trackedOf rows counts (between .spill) (estimateBy way) ≡ followed way (p .0) (σ .rows) (σ .counts) (σ .control .spill)) (counted-is : between ≡ counted (between .spill) (σ .control)) where
+  module _ (rows counts : List ℕ) (between : Control)
+      (followed-is : trackedOf rows counts (between .spill) (estimateBy way) ≡ followed way (p .0) (σ .rows) (σ .counts) (σ .control .spill))
+      (counted-is : between ≡ controlCounted (between .spill) (σ .control)) where
     tracked-is : trackedOf rows counts (between .spill) (estimateBy way) ≡ tracked S σ r
     tracked-is =
         followed-is
@@ -123,21 +128,16 @@ module _ {S : Settings} {σ : State} {r : ℕ} {p : PhysicalRow} {way : Choice} 
         ∙ ap (λ (x : Choice). followed x (place S σ r) (σ .rows) (σ .counts) (σ .control .spill)) (D .chosen)
         ∙ follow-choice (place S σ r) (σ .rows) (σ .counts) (σ .control .spill)
 
-    -- a state of the step, by what the tracker leaves
-    abbrev after : Tracked → State
-    after t =
-        stateOf (storeAfter S (σ .store) (place S σ r) m) (forwardAfter (σ .forward) r m) (reverseAfter (σ .reverse) (forwardOf σ r) r m) (t .rows) (t .counts)
-        (record { head = headAfter S (σ .control .head) m; passed = passedAfter (σ .control .passed) (rise σ r) m; spill = t .spill; acts = suc (σ .control .acts) })
+    -- the step, by the row's place and what the tracker leaves
+    abbrev after : ℕ → Tracked → State
+    after x t = relocated S r x m (stateOf (σ .store) (σ .forward) (σ .reverse) (t .rows) (t .counts) (controlCounted (t .spill) (σ .control)))
 
-    -- the tables after the move of what `count` left
-    abbrev gone : Control → Tables
-    gone control = relocated S r (p .0) m (tablesOf (σ .store) (σ .forward) (σ .reverse) control)
-
-    pub settled-is : (store forward reverse : List ℕ) (control : Control) → tablesOf store forward reverse control ≡ gone between
+    pub settled-is : (store forward reverse : List ℕ) (control : Control) → stateOf store forward reverse [] [] control ≡ relocated S r (p .0) m (lent between)
         → stateOf store forward reverse rows counts control ≡ settled S σ r (σ .store) m
     settled-is store forward reverse control e =
-        ap (λ (t : Tables). stateOf (t .store) (t .forward) (t .reverse) rows counts (t .control)) (e ∙ ap gone counted-is)
-        ∙ rw (D .placed, add-one) (ap after tracked-is)
+        ap (λ (t : State). stateOf (t .store) (t .forward) (t .reverse) rows counts (t .control)) (e ∙ ap (λ (x : Control). relocated S r (p .0) m (lent x)) counted-is)
+        ∙ ap (λ (x : PhysicalRow). after (x .0) (trackedOf rows counts (between .spill) (estimateBy way))) (D .placed)
+        ∙ ap (after (place S σ r)) tracked-is
 
     -- a row that stays is settled when its access is counted
     pub stayed-is : m ≡ Stayed → stateOf (σ .store) (σ .forward) (σ .reverse) rows counts between ≡ settled S σ r (σ .store) m

@@ -1,44 +1,38 @@
--- What the rungs 1 to 8 tell the code, and what it decides behind them. Assumes nothing.
+-- What 1 to 7 tell the code where they let an access pass, and what it decides after them. Assumes nothing.
 use Prim.Native.Nat.{ℕ, _<_, _≤_}
 use native.Mathlib.Omega.{arith}
 use mathlib.Core.Path.{_≡_, sym, _∙_}
 use mathlib.Core.Bool.{Bool, true, false}
 use lib.Dec.{ltb}
-use lib.ListN.{length, getD}
+use lib.ListN.{length}
 use Rattle.geometry.specs.declared.Settings.{Settings}
 use Rattle.geometry.specs.declared.PhysicalRow.{PhysicalRow}
 use Rattle.geometry.specs.Numbering.{physical}
-use Rattle.geometry.specs.Entry.{empty}
 use Rattle.tracker.specs.declared.Choice.{Choice}
 use Rattle.tracker.specs.Scan.{some}
+use Rattle.tracker.specs.Track.{isDue}
 use Rattle.tracker.specs.Choice.{choiceOf, estimateBy}
 use Rattle.engine.specs.declared.Move.{Move}
 use Rattle.ladder.specs.declared.Verdict.{Verdict}
 use Rattle.ladder.specs.declared.Verdict.the-variants.{Go}
 use Rattle.engine.specs.State.{State, forwardOf}
 use Rattle.engine.specs.Steps.{place}
-use Rattle.engine.specs.Ladder.{pointsBack, tickNumber}
-use Rattle.ladder.specs.Stages.{rowNumber, decisionOf}
-use Rattle.ladder.proofs.Stages.{verdictOf, Passed, passed, row-facts, place-fits, Looked, looked-way, judged}
+use Rattle.engine.specs.Ladder.{rowNumber, tickNumber}
+use Rattle.engine.proofs.Facts.{pointersHold, row-facts, place-below}
+use Rattle.ladder.proofs.Stages.{judgementOf, lateVerdict, Checked, checked, Looked, looked-way, judged}
 use Rattle.calls.proofs.Serves.{Granted}
 
--- the tables are as long as `row_number` asks
-pub tables-long : (S : Settings) (σ : State) → tickNumber S σ ≡ 0 → (length (σ .forward) ≡ S .n) × (length (σ .reverse) ≡ S .q)
-tables-long S σ z =
-    let p = passed S σ z in
-    (p .lengths .forward, p .lengths .reverse)
-
--- an access that they let pass
-pub record Past (S : Settings) (σ : State) (r : ℕ) (span : Bool) : Type 0 where
+-- such an access
+pub record Past (S : Settings) (σ : State) (r : ℕ) (off : Bool) : Type 0 where
   pub tick : tickNumber S σ ≡ 0
-  pub row : rowNumber S (σ .control) r span (σ .forward) (σ .reverse) ≡ 0
+  pub row : rowNumber S (σ .forward) (σ .reverse) r off ≡ 0
 
-module _ {S : Settings} {σ : State} {r : ℕ} {span : Bool} (P : Past S σ r span) where
-  fits : Passed S σ
-  fits = passed S σ (P .tick)
+module _ {S : Settings} {σ : State} {r : ℕ} {off : Bool} (P : Past S σ r off) where
+  fits : Checked S σ
+  fits = checked S σ (P .tick)
 
-  row-sound : (r < S .n) × (pointsBack (getD (σ .forward) r empty) (S .q) (σ .reverse) r ≡ true)
-  row-sound = row-facts S (σ .control) r span (σ .forward) (σ .reverse) (P .row)
+  row-sound : (r < S .n) × (off ≡ false) × (pointersHold S σ r ≡ true)
+  row-sound = row-facts S (σ .forward) (σ .reverse) r off (P .row)
 
   pub locatable : (r < length (σ .forward)) × (r < 65536)
   locatable = (omega (arith, row-sound .0, fits .lengths .forward), omega (arith, row-sound .0, fits .ranges .n-high))
@@ -51,14 +45,16 @@ module _ {S : Settings} {σ : State} {r : ℕ} {span : Bool} (P : Past S σ r sp
 
   module _ {p : PhysicalRow} (placed : p ≡ physical (place S σ r)) where
     pub place-small : p .0 < 65500
-    place-small = place-fits S (fits .ranges) r (σ .forward) (σ .reverse) (row-sound .0) (row-sound .1) p placed
+    place-small = rw placed (omega (arith, place-below S σ r (fits .ranges) (row-sound .0) (row-sound .2), fits .ranges .n-high, fits .ranges .q-high))
 
-    module _ {way : Choice} (chosen : way ≡ choiceOf (p .0) (σ .rows) (σ .counts) (σ .control .spill)) {estimate : ℕ} (estimated : estimate ≡ estimateBy way) {v : Verdict} (decided : v ≡ decisionOf S (σ .control) (forwardOf σ r) estimate (σ .forward) (σ .reverse)) where
+    module _ {way : Choice} (chosen : way ≡ choiceOf (p .0) (σ .rows) (σ .counts) (σ .control .spill))
+        {estimate : ℕ} (estimated : estimate ≡ estimateBy way)
+        {v : Verdict} (decided : v ≡ lateVerdict S (σ .control) (σ .forward) (σ .reverse) (forwardOf σ r) (isDue (S .a) estimate)) where
       looked : Looked S σ r p way estimate
       looked = record { placed = placed; chosen = chosen; estimated = estimated }
 
-      pub verdict-is : v ≡ verdictOf S σ r span
-      verdict-is = judged looked span (P .tick) (P .row) v decided
+      pub verdict-is : v ≡ judgementOf S σ r off
+      verdict-is = judged looked off (P .tick) (P .row) v decided
 
-      pub granted : {m : Move} → v ≡ Go m → Granted S σ r span p way m
+      pub granted : {m : Move} → v ≡ Go m → Granted S σ r off p way m
       granted goes = record { placed = placed; chosen = looked-way looked; goes = sym goes ∙ verdict-is }

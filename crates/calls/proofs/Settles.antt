@@ -1,5 +1,6 @@
 -- What the code that settles an access needs and leaves. Assumes nothing.
 use Prim.Native.Nat.{ℕ, _+_, _*_, _%_, _<_, _≤_}
+use native.Mathlib.Numerals.{add-one}
 use native.Mathlib.Omega.{arith}
 use mathlib.Core.Path.{_≡_, sym, ap, _∙_}
 use mathlib.Core.Logic.{_⊎_, inl, inr, _≢_}
@@ -10,15 +11,22 @@ use lib.ListN.{length, getD, set, length-set}
 use lib.Seq.{getD-set-other}
 use borrow.Author.Tests.{eqb-false}
 use Rattle.geometry.specs.declared.Settings.{Settings}
+use Rattle.geometry.specs.declared.Control.{Control}
 use Rattle.geometry.specs.declared.PhysicalRow.{PhysicalRow}
 use Rattle.geometry.specs.Numbering.{physical, slot, visible}
 use Rattle.geometry.specs.Entry.{empty}
-use Rattle.rows.specs.Bytes.{copied}
-use Rattle.rows.proofs.Laws.{row-before, length-copied}
+use Rattle.row_bytes.specs.Bytes.{copied}
+use Rattle.row_bytes.proofs.Laws.{row-before, length-copied}
 use Rattle.engine.specs.declared.Move.the-variants.{ToSlot, OverSlot}
 use Rattle.tracker.proofs.Sums.{getD-any}
-use Rattle.engine.specs.Steps.{left, riseFrom}
-use Rattle.calls.specs.Settling.{Tables, tablesOf, relocated, Movable}
+use Rattle.engine.specs.State.{State, stateOf, forwardOf}
+use Rattle.engine.specs.Steps.{left, riseFrom, controlCounted, relocated}
+use Rattle.calls.specs.Settling.{Movable}
+
+-- the control record of `count`
+pub counted-is : (spill : ℕ) (control : Control)
+    → record { head = control .head; passed = control .passed; spill = spill; acts = control .acts + 1 } ≡ controlCounted spill control
+counted-is spill control = rw add-one
 
 -- an entry that is not empty is an index
 pub entry-in : (e n : ℕ) → (e ≡ empty) ⊎ (e < n) → eqb e empty ≡ false → e < n
@@ -37,16 +45,21 @@ pub copy-left : (w : ℕ) (store after : List ℕ) (p t : ℕ) (x y : PhysicalRo
 copy-left w store after p t x y ex ey e = e ∙ ap (λ (z : PhysicalRow). copied w store (z .0) (y .0)) ex ∙ ap (λ (z : PhysicalRow). copied w store p (z .0)) ey
 
 -- row v was sent home from slot d first, which leaves `store` and `forward`: the move of row r to slot d is ready still,
-module _ (S : Settings) (r p d v : ℕ) (t : Tables) (other : v ≢ r) (store forward : List ℕ) (es : store ≡ copied (S .w) (t .store) (S .n + d) v) (ef : forward ≡ set (t .forward) v empty) where
-  same-entry : getD forward r empty ≡ getD (t .forward) r empty
-  same-entry = rw ef (getD-set-other (t .forward) v r empty empty (λ e. other (sym e)))
+module _ (S : Settings) (r p d v : ℕ) (σ : State) (other : v ≢ r) (store forward : List ℕ)
+    (es : store ≡ copied (S .w) (σ .store) (S .n + d) v) (ef : forward ≡ set (σ .forward) v empty) where
+  -- the state between
+  abbrev between : State
+  between = stateOf store forward (σ .reverse) (σ .rows) (σ .counts) (σ .control)
 
-  pub still-movable : v < S .n → Movable S r p d t → Movable S r p d (tablesOf store forward (t .reverse) (t .control))
+  same-entry : getD forward r empty ≡ forwardOf σ r
+  same-entry = rw ef (getD-set-other (σ .forward) v r empty empty (λ e. other (sym e)))
+
+  pub still-movable : v < S .n → Movable S r p d σ → Movable S r p d between
   still-movable v-in M =
       record {
         ranges = M .ranges;
-        store-long = rw es (length-copied (S .w) (S .n + S .q) (t .store) (S .n + d) v (M .store-long) (omega (arith, M .slot-in)) (omega arith) ∙ M .store-long);
-        forward-long = rw ef (length-set (t .forward) v empty ∙ M .forward-long);
+        store-long = rw es (length-copied (S .w) (S .n + S .q) (σ .store) (S .n + d) v (M .store-long) (omega (arith, M .slot-in)) (omega arith) ∙ M .store-long);
+        forward-long = rw ef (length-set (σ .forward) v empty ∙ M .forward-long);
         reverse-long = M .reverse-long;
         row-in = M .row-in;
         slot-in = M .slot-in;
@@ -57,7 +70,7 @@ module _ (S : Settings) (r p d v : ℕ) (t : Tables) (other : v ≢ r) (store fo
       }
 
   -- and both together are the move over slot d
-  pub over-is : relocated S r p (ToSlot (slot d)) (tablesOf store forward (t .reverse) (t .control)) ≡ relocated S r p (OverSlot (slot d) (visible v)) t
+  pub over-is : relocated S r p (ToSlot (slot d)) between ≡ relocated S r p (OverSlot (slot d) (visible v)) σ
   over-is = rw (same-entry, es, ef)
 
 -- a row's entry, as the code reads it
@@ -69,8 +82,9 @@ pub entry-sound : (forward reverse : List ℕ) (r q : ℕ) → r < length forwar
 entry-sound forward reverse r q b long h = rw (entry-read forward r b, long) h
 
 -- the move of row r from place p to slot d, as the code leaves it; e: the row's entry, fd and rd: what is written at its ends
-pub entered : (S : Settings) (r p d : ℕ) (t : Tables) (store : List ℕ) (e : ℕ) (reverse : List ℕ) (fd rd up : ℕ)
-    → store ≡ copied (S .w) (t .store) p (S .n + d) → e ≡ getD (t .forward) r empty → reverse ≡ left (t .reverse) e → fd ≡ d → rd ≡ r → up ≡ riseFrom (t .control .head) e
-    → tablesOf store (set (t .forward) r fd) (set reverse d rd)
-    (record { head = (d + 1) % S .q; passed = t .control .passed + up; spill = t .control .spill; acts = t .control .acts }) ≡ relocated S r p (ToSlot (slot d)) t
-entered S r p d t store e reverse fd rd up es ee er ef ed eu = rw (es, er, ef, ed, eu, ee)
+pub entered : (S : Settings) (r p d : ℕ) (σ : State) (store : List ℕ) (e : ℕ) (reverse : List ℕ) (fd rd up : ℕ)
+    → store ≡ copied (S .w) (σ .store) p (S .n + d) → e ≡ forwardOf σ r → reverse ≡ left (σ .reverse) e → fd ≡ d → rd ≡ r
+    → up ≡ riseFrom (σ .control .head) e
+    → stateOf store (set (σ .forward) r fd) (set reverse d rd) (σ .rows) (σ .counts)
+    (record { head = (d + 1) % S .q; passed = σ .control .passed + up; spill = σ .control .spill; acts = σ .control .acts }) ≡ relocated S r p (ToSlot (slot d)) σ
+entered S r p d σ store e reverse fd rd up es ee er ef ed eu = rw (es, er, ef, ed, eu, ee)

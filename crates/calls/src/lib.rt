@@ -16,7 +16,7 @@ use ladder::Verdict;
 pub mod settle;
 
 // A read or a write: its answer, and the control record after it.
-pub struct Served {
+pub struct Answered {
     pub answer: Access,
     pub control: Control,
 }
@@ -28,20 +28,20 @@ pub struct Numbered {
 }
 
 // The answer of a refusal, which leaves the control record.
-fn refused(control: Control, number: u32) -> Served
+fn refused(control: Control, number: u32) -> Answered
     ensures { λ r. ⌜ r ≡ record { answer = Access.Refused number; control = control } ⌝ }
 {
-    Served {
+    Answered {
         answer: Access::Refused(number),
         control: control,
     }
 }
 
 // The answer of an accepted access, which leaves this control record.
-fn accepted(control: Control, place: PhysicalRow, moved: Move) -> Served
+fn done(control: Control, place: PhysicalRow, moved: Move) -> Answered
     ensures { λ r. ⌜ r ≡ record { answer = Access.Done place moved; control = control } ⌝ }
 {
-    Served {
+    Answered {
         answer: Access::Done {
             place: place,
             moved: moved,
@@ -68,7 +68,12 @@ pub fn set_up(
     rows: &mut [u16],
     counts: &mut [u32],
 ) -> Numbered
-    ensures { λ r. ⌜ notedOf (stateOf (now (store .entry)) (now (forward .exit)) (now (reverse .exit)) (now (rows .exit)) (now (counts .exit)) (r .control)) (r .number) ≡ setUp s (stateOf (now (store .entry)) (now (forward .entry)) (now (reverse .entry)) (now (rows .entry)) (now (counts .entry)) control) ⌝ }
+    ensures { λ r.
+        let before = stateOf (now (store .entry)) (now (forward .entry)) (now (reverse .entry))
+        (now (rows .entry)) (now (counts .entry)) control in
+        let after = stateOf (now (store .entry)) (now (forward .exit)) (now (reverse .exit))
+        (now (rows .exit)) (now (counts .exit)) (r .control) in
+        ⌜ notedOf after (r .number) ≡ setUp s before ⌝ }
 {
     let lent = Lengths {
         store: store.len(),
@@ -103,7 +108,12 @@ pub fn tick(
     rows: &mut [u16],
     counts: &mut [u32],
 ) -> Numbered
-    ensures { λ r. ⌜ notedOf (stateOf (now (store .entry)) (now (forward .entry)) (now (reverse .entry)) (now (rows .exit)) (now (counts .exit)) (r .control)) (r .number) ≡ tick s (stateOf (now (store .entry)) (now (forward .entry)) (now (reverse .entry)) (now (rows .entry)) (now (counts .entry)) control) ⌝ }
+    ensures { λ r.
+        let before = stateOf (now (store .entry)) (now (forward .entry)) (now (reverse .entry))
+        (now (rows .entry)) (now (counts .entry)) control in
+        let after = stateOf (now (store .entry)) (now (forward .entry)) (now (reverse .entry))
+        (now (rows .exit)) (now (counts .exit)) (r .control) in
+        ⌜ notedOf after (r .number) ≡ tick s before ⌝ }
 {
     let number = ladder::tick_number(control, s, store, forward, reverse, rows, counts);
     if number != 0 {
@@ -135,15 +145,20 @@ pub fn read(
     reverse: &mut [u16],
     rows: &mut [u16],
     counts: &mut [u32],
-) -> Served
-    ensures { λ r. ⌜ accessedOf (stateOf (now (store .exit)) (now (forward .exit)) (now (reverse .exit)) (now (rows .exit)) (now (counts .exit)) (r .control)) (r .answer) (now (buffer .exit)) ≡ read s (stateOf (now (store .entry)) (now (forward .entry)) (now (reverse .entry)) (now (rows .entry)) (now (counts .entry)) control) row (now (buffer .entry)) ⌝ }
+) -> Answered
+    ensures { λ r.
+        let before = stateOf (now (store .entry)) (now (forward .entry)) (now (reverse .entry))
+        (now (rows .entry)) (now (counts .entry)) control in
+        let after = stateOf (now (store .exit)) (now (forward .exit)) (now (reverse .exit))
+        (now (rows .exit)) (now (counts .exit)) (r .control) in
+        ⌜ accessedOf after (r .answer) (now (buffer .exit)) ≡ read s before row (now (buffer .entry)) ⌝ }
 {
     let early = ladder::tick_number(control, s, store, forward, reverse, rows, counts);
     if early != 0 {
         return refused(control, early);
     }
-    let span = ladder::read_span(s, buffer.len());
-    let number = ladder::row_number(control, s, row, span, forward, reverse);
+    let off = ladder::read_off(s, buffer.len());
+    let number = ladder::row_number(s, row, off, forward, reverse);
     if number != 0 {
         return refused(control, number);
     }
@@ -154,10 +169,10 @@ pub fn read(
     match verdict {
         Verdict::Stop(last) => refused(control, last),
         Verdict::Go(moved) => {
-            rows::read_row(store, s.w as usize, place.0 as usize, buffer);
+            row_bytes::read_row(store, s.w as usize, place.0 as usize, buffer);
             let counted = settle::count(control, place, choice, rows, counts);
             if let Move::Stayed = moved {
-                return accepted(counted, place, moved);
+                return done(counted, place, moved);
             }
             let next = settle::relocate(
                 counted,
@@ -169,7 +184,7 @@ pub fn read(
                 forward,
                 reverse,
             );
-            accepted(next, place, moved)
+            done(next, place, moved)
         }
     }
 }
@@ -186,15 +201,20 @@ pub fn write(
     reverse: &mut [u16],
     rows: &mut [u16],
     counts: &mut [u32],
-) -> Served
-    ensures { λ r. ⌜ accessedOf (stateOf (now (store .exit)) (now (forward .exit)) (now (reverse .exit)) (now (rows .exit)) (now (counts .exit)) (r .control)) (r .answer) [] ≡ write s (stateOf (now (store .entry)) (now (forward .entry)) (now (reverse .entry)) (now (rows .entry)) (now (counts .entry)) control) row column (now (bytes .entry)) ⌝ }
+) -> Answered
+    ensures { λ r.
+        let before = stateOf (now (store .entry)) (now (forward .entry)) (now (reverse .entry))
+        (now (rows .entry)) (now (counts .entry)) control in
+        let after = stateOf (now (store .exit)) (now (forward .exit)) (now (reverse .exit))
+        (now (rows .exit)) (now (counts .exit)) (r .control) in
+        ⌜ accessedOf after (r .answer) [] ≡ write s before row column (now (bytes .entry)) ⌝ }
 {
     let early = ladder::tick_number(control, s, store, forward, reverse, rows, counts);
     if early != 0 {
         return refused(control, early);
     }
-    let span = ladder::write_span(s, column, bytes.len());
-    let number = ladder::row_number(control, s, row, span, forward, reverse);
+    let off = ladder::write_off(s, column, bytes.len());
+    let number = ladder::row_number(s, row, off, forward, reverse);
     if number != 0 {
         return refused(control, number);
     }
@@ -205,10 +225,10 @@ pub fn write(
     match verdict {
         Verdict::Stop(last) => refused(control, last),
         Verdict::Go(moved) => {
-            rows::write_row(store, s.w as usize, place.0 as usize, column, bytes);
+            row_bytes::write_row(store, s.w as usize, place.0 as usize, column, bytes);
             let counted = settle::count(control, place, choice, rows, counts);
             if let Move::Stayed = moved {
-                return accepted(counted, place, moved);
+                return done(counted, place, moved);
             }
             let next = settle::relocate(
                 counted,
@@ -220,7 +240,7 @@ pub fn write(
                 forward,
                 reverse,
             );
-            accepted(next, place, moved)
+            done(next, place, moved)
         }
     }
 }
@@ -236,12 +256,15 @@ pub fn inspect_part<'a>(
     rows: &[u16],
     counts: &[u32],
 ) -> &'a [u8]
-    ensures { λ r. ⌜ now r ≡ inspectPart s (stateOf (now (store .entry)) (now (forward .entry)) (now (reverse .entry)) (now (rows .entry)) (now (counts .entry)) control) row ⌝ }
+    ensures { λ r.
+        let lent = stateOf (now (store .entry)) (now (forward .entry)) (now (reverse .entry))
+        (now (rows .entry)) (now (counts .entry)) control in
+        ⌜ now r ≡ inspectPart s lent row ⌝ }
 {
     let number = ladder::inspect_number(control, s, row, store, forward, reverse, rows, counts);
     if number != 0 {
         return &store[..0];
     }
     let place = ladder::place(s, row, forward);
-    rows::row_part(store, s.w as usize, place.0 as usize)
+    row_bytes::row_part(store, s.w as usize, place.0 as usize)
 }

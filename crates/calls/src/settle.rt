@@ -1,14 +1,17 @@
-// What an accepted access writes: the tracker, the copies, the pointer tables.
+// What an accepted access writes: the tracker, the copies, the pointer tables. In the contracts of a move the tracker,
+// which is not lent to it, stands as empty lists.
 ghost use mathlib.Core.Path.{_≡_};
 ghost use mathlib.Core.Logic.{_⊎_};
+ghost use mathlib.Core.List.{[]};
 ghost use Prim.Native.Nat.{_<_};
 ghost use lib.ListN.{length, set};
 ghost use Rattle.geometry.specs.Numbering.{homeRow, slotRow};
 ghost use Rattle.geometry.specs.Entry.{empty};
-ghost use Rattle.rows.specs.Bytes.{copied};
+ghost use Rattle.row_bytes.specs.Bytes.{copied};
 ghost use Rattle.tracker.specs.Choice.{estimateBy, followed, Within, trackedOf};
-ghost use Rattle.engine.specs.Steps.{left};
-ghost use Rattle.calls.specs.Settling.{tablesOf, relocated, counted, Sendable, Movable, Relocatable};
+ghost use Rattle.engine.specs.State.{stateOf};
+ghost use Rattle.engine.specs.Steps.{left, controlCounted, relocated};
+ghost use Rattle.calls.specs.Settling.{Sendable, Movable, Relocatable};
 use engine::Move;
 use geometry::Control;
 use geometry::Entry;
@@ -33,12 +36,13 @@ fn leave(reverse: &mut [u16], entry: Entry)
 // The row that a slot holds is copied home and its forward entry emptied.
 fn send_home(s: Settings, d: Slot, v: VisibleRow, store: &mut [u8], forward: &mut [u16])
     requires { ⌜ Sendable s (d .0) (v .0) (now store) (now forward) ⌝ }
-    ensures store { λ _. ⌜ now (store .exit) ≡ copied (s .w) (now (store .entry)) (slotRow s (d .0)) (homeRow (v .0)) ⌝ }
+    ensures store { λ _.
+        ⌜ now (store .exit) ≡ copied (s .w) (now (store .entry)) (slotRow s (d .0)) (homeRow (v .0)) ⌝ }
     ensures forward { λ _. ⌜ now (forward .exit) ≡ set (now (forward .entry)) (v .0) empty ⌝ }
 {
     let source = geometry::slot_row(s, d);
     let target = geometry::home(v);
-    rows::copy_row(store, s.w as usize, source.0 as usize, target.0 as usize);
+    row_bytes::copy_row(store, s.w as usize, source.0 as usize, target.0 as usize);
     let at = v.0 as usize;
     forward[at] = Entry::EMPTY.0;
 }
@@ -54,11 +58,15 @@ fn enter(
     forward: &mut [u16],
     reverse: &mut [u16],
 ) -> Control
-    requires { ⌜ Movable s (row .0) (place .0) (d .0) (tablesOf (now store) (now forward) (now reverse) control) ⌝ }
-    ensures { λ r. ⌜ tablesOf (now (store .exit)) (now (forward .exit)) (now (reverse .exit)) r ≡ relocated s (row .0) (place .0) (Move.ToSlot d) (tablesOf (now (store .entry)) (now (forward .entry)) (now (reverse .entry)) control) ⌝ }
+    requires { let lent = stateOf (now store) (now forward) (now reverse) [] [] control in
+        ⌜ Movable s (row .0) (place .0) (d .0) lent ⌝ }
+    ensures { λ r.
+        let before = stateOf (now (store .entry)) (now (forward .entry)) (now (reverse .entry)) [] [] control in
+        let after = stateOf (now (store .exit)) (now (forward .exit)) (now (reverse .exit)) [] [] r in
+        ⌜ after ≡ relocated s (row .0) (place .0) (Move.ToSlot d) before ⌝ }
 {
     let target = geometry::slot_row(s, d);
-    rows::copy_row(store, s.w as usize, place.0 as usize, target.0 as usize);
+    row_bytes::copy_row(store, s.w as usize, place.0 as usize, target.0 as usize);
     let at = row.0 as usize;
     let entry = Entry(forward[at]);
     leave(reverse, entry);
@@ -84,8 +92,12 @@ pub fn relocate(
     forward: &mut [u16],
     reverse: &mut [u16],
 ) -> Control
-    requires { ⌜ Relocatable s (row .0) (place .0) moved (tablesOf (now store) (now forward) (now reverse) control) ⌝ }
-    ensures { λ r. ⌜ tablesOf (now (store .exit)) (now (forward .exit)) (now (reverse .exit)) r ≡ relocated s (row .0) (place .0) moved (tablesOf (now (store .entry)) (now (forward .entry)) (now (reverse .entry)) control) ⌝ }
+    requires { let lent = stateOf (now store) (now forward) (now reverse) [] [] control in
+        ⌜ Relocatable s (row .0) (place .0) moved lent ⌝ }
+    ensures { λ r.
+        let before = stateOf (now (store .entry)) (now (forward .entry)) (now (reverse .entry)) [] [] control in
+        let after = stateOf (now (store .exit)) (now (forward .exit)) (now (reverse .exit)) [] [] r in
+        ⌜ after ≡ relocated s (row .0) (place .0) moved before ⌝ }
 {
     match moved {
         Move::Stayed => control,
@@ -105,9 +117,13 @@ pub fn count(
     rows: &mut [u16],
     counts: &mut [u32],
 ) -> Control
-    requires { ⌜ (place .0 < 65536) × (control .acts < 1360000) × (Within (length (now rows)) choice) × (Within (length (now counts)) choice) ⌝ }
-    ensures followed { λ r. ⌜ trackedOf (now (rows .exit)) (now (counts .exit)) (r .spill) (estimateBy choice) ≡ followed choice (place .0) (now (rows .entry)) (now (counts .entry)) (control .spill) ⌝ }
-    ensures counted { λ r. ⌜ r ≡ counted (r .spill) control ⌝ }
+    requires { ⌜
+        (place .0 < 65536) × (control .acts < 1360000)
+        × (Within (length (now rows)) choice) × (Within (length (now counts)) choice) ⌝ }
+    ensures followed { λ r.
+        let after = trackedOf (now (rows .exit)) (now (counts .exit)) (r .spill) (estimateBy choice) in
+        ⌜ after ≡ followed choice (place .0) (now (rows .entry)) (now (counts .entry)) (control .spill) ⌝ }
+    ensures counted { λ r. ⌜ r ≡ controlCounted (r .spill) control ⌝ }
 {
     let spill = tracker::follow(choice, place.0 as u16, rows, counts, control.spill);
     Control {

@@ -78,14 +78,14 @@ fn far_columns(t: Tally) -> Tally {
 fn large_counts(t: Tally) -> Tally {
     let m = build::clean(4, 2, 3, 2, 2, 5, 18);
     let s = m.settings;
-    let t = report::holds(t, !ladder::write_span(s, 0, 18446744073709551615));
-    let t = report::holds(t, !ladder::write_span(s, 1, 18446744073709551615));
+    let t = report::holds(t, ladder::write_off(s, 0, 18446744073709551615));
+    let t = report::holds(t, ladder::write_off(s, 1, 18446744073709551615));
     let t = report::holds(
         t,
-        !ladder::write_span(s, 18446744073709551615, 18446744073709551615),
+        ladder::write_off(s, 18446744073709551615, 18446744073709551615),
     );
-    let t = report::holds(t, !ladder::read_span(s, 18446744073709551615));
-    report::holds(t, !ladder::read_span(s, 4294967299))
+    let t = report::holds(t, ladder::read_off(s, 18446744073709551615));
+    report::holds(t, ladder::read_off(s, 4294967299))
 }
 
 // Case: a read with a buffer of this length is refused 6, W being 3.

@@ -85,7 +85,11 @@ fn buffer_of(a: [u8; 8]) -> [u8; 8]
 // A memory as it is, with each length at most its array's. The contract tells the lengths of the arrays, which lending a part
 // of one asks.
 fn sized(m: Memory) -> Memory
-    ensures { λ r. ⌜ (length (r .store) ≡ 32) × (length (r .forward) ≡ 8) × (length (r .reverse) ≡ 8) × (length (r .rows) ≡ 24) × (length (r .counts) ≡ 24) × (length (r .buffer) ≡ 8) × (r .lent .store ≤ 32) × (r .lent .forward ≤ 8) × (r .lent .reverse ≤ 8) × (r .lent .rows ≤ 24) × (r .lent .counts ≤ 24) × (r .span ≤ 8) ⌝ }
+    ensures { λ r. ⌜
+        (length (r .store) ≡ 32) × (length (r .forward) ≡ 8) × (length (r .reverse) ≡ 8)
+        × (length (r .rows) ≡ 24) × (length (r .counts) ≡ 24) × (length (r .buffer) ≡ 8)
+        × (r .lent .store ≤ 32) × (r .lent .forward ≤ 8) × (r .lent .reverse ≤ 8)
+        × (r .lent .rows ≤ 24) × (r .lent .counts ≤ 24) × (r .span ≤ 8) ⌝ }
 {
     let settings = m.settings;
     let control = m.control;

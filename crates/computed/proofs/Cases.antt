@@ -7,7 +7,8 @@ use Rattle.trace_file.specs.Form.{hasSections, traceIn}
 use Rattle.page.specs.Decimal.{decimalWithin}
 use Rattle.lines.specs.Lines.{lineBytes}
 use Rattle.replay.specs.Steps.{linesFrom}
-use Rattle.replay.specs.Replay.{settingsNumber, played, replayed}
+use Rattle.engine.specs.Ladder.{settingsNumber}
+use Rattle.replay.specs.Replay.{played, replayed}
 use Rattle.computed.specs.Cases.{holds, AllHold}
 use Rattle.computed.proofs.Traced.{traced}
 

@@ -7,6 +7,7 @@ use mathlib.Core.List.{List, [], _∷_, _++_, map}
 use lib.ListN.{replicate}
 use Rattle.geometry.specs.declared.Settings.{Settings}
 use Rattle.geometry.specs.Numbering.{homeRow, slotRow}
+use Rattle.history.specs.Run.{reportOf}
 use Rattle.history.specs.Tally.{start, hit, Stretch, openingsIn, quarantinesIn, epochs}
 use Rattle.computed.specs.Cases.{settingsOf}
 use Rattle.computed.proofs.Traced.{setUpAnswers, traced}
@@ -21,7 +22,7 @@ often a [] = []
 often a (r ∷ rs) = replicate a r ++ often a rs
 
 abbrev pub epochsOf : Settings → List ℕ → List Stretch
-epochsOf S steps = epochs S start start (traced S steps)
+epochsOf S steps = epochs S start start (map reportOf (traced S steps))
 
 -- ---- a home row is opened A + 2 times: it gets its row back, is read A times, and is copied away
 

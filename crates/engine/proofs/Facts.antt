@@ -1,26 +1,32 @@
--- What the tests of the ladder say, as facts about numbers, and back. Assumes nothing.
-use Prim.Native.Nat.{ℕ, _+_, _*_, _%_, _<_, _≤_}
+-- What the conditions of the ladder say, as facts about numbers, and back. Assumes nothing.
+use Prim.Native.Nat.{ℕ, _+_, _<_, _≤_}
 use native.Mathlib.Omega.{arith}
-use mathlib.Core.Path.{_≡_, refl}
+use mathlib.Core.Path.{_≡_, refl, sym}
 use mathlib.Core.Logic.{_⊎_, inl, inr, _≢_}
-use mathlib.Core.Bool.{Bool, true, false, not, _&&_, _||_}
+use mathlib.Core.Bool.{Bool, true, false, cond, not, _&&_, false≢true}
 use mathlib.Core.List.{List}
-use lib.Dec.{ltb, leb, eqb}
+use lib.Dec.{ltb, eqb}
 use lib.ListN.{length, getD}
-use borrow.Author.Tests.{ltb-true, leb-true, leb-false, eqb-true, eqb-false, not-true, not-false, lt-ltb, le-ltb, le-leb, eq-eqb, ne-eqb}
+use borrow.Author.Tests.{ltb-true, ltb-false, leb-false, eqb-true, eqb-false, not-true, not-false, lt-ltb, le-ltb, lt-leb, eq-eqb, ne-eqb}
 use Rattle.geometry.specs.declared.Settings.{Settings}
+use Rattle.geometry.specs.declared.Control.{Control}
 use Rattle.geometry.specs.Conditions.{rangesHold, limitHolds, lengthsHold}
 use Rattle.geometry.specs.Entry.{empty}
 use Rattle.geometry.proofs.Cases.{split}
-use Rattle.geometry.proofs.Tests.{and-left, and-right}
+use Rattle.geometry.proofs.Facts.{Ranges}
+use Rattle.geometry.proofs.Tests.{and-left, and-right, or-left, or-right}
 use Rattle.tracker.specs.Scan.{some}
 use Rattle.tracker.proofs.Scans.{some-none}
 use Rattle.engine.specs.State.{State, lengthsOf, forwardOf, reverseOf}
-use Rattle.engine.specs.Steps.{moves, destination, rise}
-use Rattle.engine.specs.Ladder.{rung, _▹_, fitNumber, controlHolds, pointsBack, pointersHold, destinationHolds, setUpNumber, tickNumber, inspectNumber, accessNumber}
-use Rattle.engine.proofs.Rungs.{pass, held, passes, holds, reach, only, past, rung-all, ladder-all, either, neither, unless, unless-holds}
+use Rattle.engine.specs.Steps.{place, moves, destinationFrom, destination, rise}
+use Rattle.engine.specs.Ladder.{settingsNumber, fitNumber, controlUnsound, pointsBack, rowNumber, quarantineNumber, lateNumber, setUpNumber, tickNumber, inspectNumber, accessNumber}
+use Rattle.engine.proofs.Rungs.{pass, unmet, passes, goes-by, reach, only, past, stops-all, ladder-all, if-all, either}
 
--- ---- the rungs 1 to 4
+-- a row of the table whose condition is that a test fails
+pub fails-not : {test : Bool} → test ≡ true → not test ≡ false
+fails-not e = rw e
+
+-- ---- 1 to 4
 
 -- past 1, 2 and 3
 pub record Fit (S : Settings) (σ : State) : Type 0 where
@@ -28,39 +34,33 @@ pub record Fit (S : Settings) (σ : State) : Type 0 where
   pub limit : limitHolds S ≡ true
   pub lengths : lengthsHold S (lengthsOf σ) ≡ true
 
+pub settings-facts : (S : Settings) → settingsNumber S ≡ 0 → (rangesHold S ≡ true) × (limitHolds S ≡ true)
+unfolding settingsNumber
+settings-facts S h = let p = pass _ _ h in (not-false (rangesHold S) (unmet _ _ (p .0)), not-false (limitHolds S) (unmet _ _ (p .1)))
+
+pub settings-pass : (S : Settings) → rangesHold S ≡ true → limitHolds S ≡ true → settingsNumber S ≡ 0
+unfolding settingsNumber
+settings-pass S r l = passes (goes-by 1 (fails-not r)) (goes-by 2 (fails-not l))
+
 pub fit : (S : Settings) (σ : State) → setUpNumber S σ ≡ 0 → Fit S σ
 unfolding fitNumber
 fit S σ h =
-    let p1 = pass _ _ h in
-    let p2 = pass _ _ (p1 .1) in
-    record { ranges = held _ _ (p1 .0); limit = held _ _ (p2 .0); lengths = held _ _ (p2 .1) }
+    let p = pass _ _ h in
+    let s = settings-facts S (p .0) in
+    record { ranges = s .0; limit = s .1; lengths = not-false (lengthsHold S (lengthsOf σ)) (unmet _ _ (p .1)) }
 
 pub fit-passes : (S : Settings) (σ : State) → Fit S σ → setUpNumber S σ ≡ 0
 unfolding fitNumber
-fit-passes S σ f = passes (holds 1 (f .ranges)) (passes (holds 2 (f .limit)) (holds 3 (f .lengths)))
-
-pub tick-most : (S : Settings) (σ : State) → tickNumber S σ ≤ 4
-unfolding tickNumber fitNumber
-tick-most S σ =
-    let P : ℕ → Type 0 = λ x. x ≤ 4 in
-    ladder-all P _ _
-    (ladder-all P _ _ (rung-all P _ 1 (omega arith) (omega arith)) (λ e. ladder-all P _ _ (rung-all P _ 2 (omega arith) (omega arith)) (λ f. rung-all P _ 3 (omega arith) (omega arith))))
-    (λ e. rung-all P _ 4 (omega arith) (omega arith))
-
-pub inspect-most : (S : Settings) (σ : State) (r : ℕ) → inspectNumber S σ r ≤ 7
-unfolding inspectNumber
-inspect-most S σ r =
-    let P : ℕ → Type 0 = λ x. x ≤ 7 in
-    ladder-all P _ _ (omega (arith, tick-most S σ)) (λ e. ladder-all P _ _ (rung-all P _ 5 (omega arith) (omega arith)) (λ f. rung-all P _ 7 (omega arith) (omega arith)))
+fit-passes S σ f = passes (settings-pass S (f .ranges) (f .limit)) (goes-by 3 (fails-not (f .lengths)))
 
 -- past 1 to 4
-pub tick-facts : (S : Settings) (σ : State) → tickNumber S σ ≡ 0 → Fit S σ × (controlHolds S (σ .control) (σ .counts) ≡ true)
+pub tick-facts : (S : Settings) (σ : State) → tickNumber S σ ≡ 0 → Fit S σ × (controlUnsound S (σ .control) (σ .counts) ≡ false)
 unfolding tickNumber
-tick-facts S σ h = let p = pass _ _ h in (fit S σ (p .0), held _ _ (p .1))
+tick-facts S σ h = let p = pass _ _ h in (fit S σ (p .0), unmet _ _ (p .1))
 
-pub tick-passes : (S : Settings) (σ : State) → Fit S σ → controlHolds S (σ .control) (σ .counts) ≡ true → tickNumber S σ ≡ 0
+pub tick-passes : (S : Settings) (σ : State) → Fit S σ → controlUnsound S (σ .control) (σ .counts) ≡ false → tickNumber S σ ≡ 0
 unfolding tickNumber
-tick-passes S σ f c = passes (fit-passes S σ f) (holds 4 c)
+tick-passes S σ f c = passes (fit-passes S σ f) (goes-by 4 c)
 
 -- what 4 asks
 pub record Steady (S : Settings) (σ : State) : Type 0 where
@@ -70,30 +70,41 @@ pub record Steady (S : Settings) (σ : State) : Type 0 where
   pub spill-in : σ .control .spill ≤ σ .control .acts
   pub spill-below : σ .control .spill < S .a
 
-pub steady : (S : Settings) (σ : State) → controlHolds S (σ .control) (σ .counts) ≡ true → Steady S σ
-unfolding controlHolds
+pub steady : (S : Settings) (σ : State) → controlUnsound S (σ .control) (σ .counts) ≡ false → Steady S σ
+unfolding controlUnsound
 steady S σ h =
     record {
-      head-in = ltb-true (σ .control .head) (S .q) (search (and-left, and-right) depth 8);
-      passed-in = leb-true (σ .control .passed) (S .q) (search (and-left, and-right) depth 8);
-      acts-in = leb-true (σ .control .acts) (S .l) (search (and-left, and-right) depth 8);
-      spill-in = leb-true (σ .control .spill) (σ .control .acts) (search (and-left, and-right) depth 8);
-      spill-below = ltb-true (σ .control .spill) (S .a) (search (and-left, and-right) depth 8);
+      head-in = leb-false (S .q) (σ .control .head) (search (or-left, or-right) depth 8);
+      passed-in = ltb-false (S .q) (σ .control .passed) (search (or-left, or-right) depth 8);
+      acts-in = ltb-false (S .l) (σ .control .acts) (search (or-left, or-right) depth 8);
+      spill-in = ltb-false (σ .control .acts) (σ .control .spill) (search (or-left, or-right) depth 8);
+      spill-below = leb-false (S .a) (σ .control .spill) (search (or-left, or-right) depth 8);
     }
 
-pub steady-holds : (S : Settings) (σ : State) → Steady S σ → ((i : ℕ) → i < length (σ .counts) → getD (σ .counts) i 0 ≤ σ .control .acts) → controlHolds S (σ .control) (σ .counts) ≡ true
-unfolding controlHolds
-steady-holds S σ s counts =
+pub none-above : (S : Settings) (control : Control) (counts : List ℕ) → controlUnsound S control counts ≡ false → some (λ count. ltb (control .acts) count) counts ≡ false
+unfolding controlUnsound
+none-above S control counts h = search (or-left, or-right) depth 8
+
+pub steady-passes : (S : Settings) (σ : State) → Steady S σ → ((i : ℕ) → i < length (σ .counts) → getD (σ .counts) i 0 ≤ σ .control .acts) → controlUnsound S (σ .control) (σ .counts) ≡ false
+unfolding controlUnsound
+steady-passes S σ s counts =
     rw (
-      lt-ltb (σ .control .head) (S .q) (s .head-in),
-      le-leb (σ .control .passed) (S .q) (s .passed-in),
-      le-leb (σ .control .acts) (S .l) (s .acts-in),
-      le-leb (σ .control .spill) (σ .control .acts) (s .spill-in),
-      lt-ltb (σ .control .spill) (S .a) (s .spill-below),
+      lt-leb (S .q) (σ .control .head) (s .head-in),
+      le-ltb (S .q) (σ .control .passed) (s .passed-in),
+      le-ltb (S .l) (σ .control .acts) (s .acts-in),
+      le-ltb (σ .control .acts) (σ .control .spill) (s .spill-in),
+      lt-leb (S .a) (σ .control .spill) (s .spill-below),
       some-none (λ count. ltb (σ .control .acts) count) (σ .counts) (λ i b. le-ltb (σ .control .acts) (getD (σ .counts) i 0) (counts i b)),
     )
 
--- ---- the two rungs 7
+-- ---- the two rows with 7
+
+-- row r's pointers hold, and slot d's do
+abbrev pub pointersHold : Settings → State → ℕ → Bool
+pointersHold S σ r = pointsBack (forwardOf σ r) (S .q) (σ .reverse) r
+
+abbrev pub destinationHolds : Settings → State → ℕ → Bool
+destinationHolds S σ d = pointsBack (reverseOf σ d) (S .n) (σ .forward) d
 
 module _ (S : Settings) (σ : State) where
   -- row r's pointers are sound, and slot d's are
@@ -135,91 +146,182 @@ slot-sound S σ d h = points-back (reverseOf σ d) (S .n) (σ .forward) d h
 pub slot-holds : (S : Settings) (σ : State) (d : ℕ) → SlotSound S σ d → destinationHolds S σ d ≡ true
 slot-holds S σ d h = points-back-holds (reverseOf σ d) (S .n) (σ .forward) d h
 
+-- the place of a row with sound pointers is a row of the store
+pub place-below : (S : Settings) (σ : State) (r : ℕ) → Ranges S → r < S .n → pointersHold S σ r ≡ true → place S σ r < S .n + S .q
+place-below S σ r R row-in h =
+    elim (row-sound S σ r h) [
+      | inl e ↦ rw (eq-eqb (forwardOf σ r) empty e) (omega arith)
+      | inr c ↦ rw (ne-eqb (forwardOf σ r) empty (λ e. omega (arith, c .0, R .q-high))) (omega (arith, c .0))
+    ]
+
+-- ---- what holds of every number that the rows can give
+
+pub fit-all : (P : ℕ → Type 0) → P 0 → P 1 → P 2 → P 3 → (S : Settings) (σ : State) → P (setUpNumber S σ)
+unfolding fitNumber settingsNumber
+fit-all P p0 p1 p2 p3 S σ =
+    ladder-all P _ _
+    (ladder-all P _ _ (stops-all P _ 1 p0 (λ e. p1)) (λ e. stops-all P _ 2 p0 (λ e. p2)))
+    (λ e. stops-all P _ 3 p0 (λ e. p3))
+
+pub tick-all : (P : ℕ → Type 0) → P 0 → P 1 → P 2 → P 3 → P 4 → (S : Settings) (σ : State) → P (tickNumber S σ)
+unfolding tickNumber
+tick-all P p0 p1 p2 p3 p4 S σ = ladder-all P _ _ (fit-all P p0 p1 p2 p3 S σ) (λ e. stops-all P _ 4 p0 (λ e. p4))
+
+-- where a row with 6 or 7 can apply at all
+pub row-all : (P : ℕ → Type 0) → P 0 → P 5 → (S : Settings) (forward reverse : List ℕ) (r : ℕ) (off : Bool) → (off ≡ true → P 6)
+    → (r < S .n → pointsBack (getD forward r empty) (S .q) reverse r ≡ false → P 7) → P (rowNumber S forward reverse r off)
+unfolding rowNumber
+row-all P p0 p5 S forward reverse r off p6 p7 =
+    ladder-all P _ _ (stops-all P _ 5 p0 (λ e. p5)) (λ row.
+    ladder-all P _ _ (stops-all P _ 6 p0 p6) (λ f.
+    stops-all P _ 7 p0 (λ e. p7 (leb-false (S .n) r (unmet _ _ row)) (not-true (pointsBack (getD forward r empty) (S .q) reverse r) e))))
+
+pub late-all : (P : ℕ → Type 0) → P 0 → P 8 → P 9 → (S : Settings) (control : Control) (forward reverse : List ℕ) (entry : ℕ) (due : Bool)
+    → (let d : ℕ = destinationFrom S (control .head) entry in due ≡ true → pointsBack (getD reverse d empty) (S .n) forward d ≡ false → P 7)
+    → P (lateNumber S control forward reverse entry due)
+unfolding lateNumber quarantineNumber
+late-all P p0 p8 p9 S control forward reverse entry due p7 =
+    ladder-all P _ _ (stops-all P _ 8 p0 (λ e. p8)) (λ e.
+    if-all P due _ p0 (λ d.
+    ladder-all P _ _ (stops-all P _ 9 p0 (λ k. p9)) (λ k.
+    stops-all P _ 7 p0 (λ f. p7 d (not-true _ f)))))
+
+pub access-all : (P : ℕ → Type 0) → P 0 → P 1 → P 2 → P 3 → P 4 → P 5 → P 6 → P 7 → P 8 → P 9 → (S : Settings) (σ : State) (r : ℕ) (off : Bool) → P (accessNumber S σ r off)
+unfolding accessNumber
+access-all P p0 p1 p2 p3 p4 p5 p6 p7 p8 p9 S σ r off =
+    ladder-all P _ _ (tick-all P p0 p1 p2 p3 p4 S σ) (λ e.
+    ladder-all P _ _ (row-all P p0 p5 S (σ .forward) (σ .reverse) r off (λ e. p6) (λ b e. p7)) (λ e.
+    late-all P p0 p8 p9 S (σ .control) (σ .forward) (σ .reverse) (forwardOf σ r) (moves S σ r) (λ d e. p7)))
+
+pub inspect-all : (P : ℕ → Type 0) → P 0 → P 1 → P 2 → P 3 → P 4 → P 5 → P 7 → (S : Settings) (σ : State) (r : ℕ) → P (inspectNumber S σ r)
+unfolding inspectNumber
+inspect-all P p0 p1 p2 p3 p4 p5 p7 S σ r =
+    ladder-all P _ _ (tick-all P p0 p1 p2 p3 p4 S σ) (λ e.
+    row-all P p0 p5 S (σ .forward) (σ .reverse) r false (λ e. absurd (false≢true e)) (λ b e. p7))
+
+-- ---- 5, 6 and 7
+
+pub row-facts : (S : Settings) (forward reverse : List ℕ) (r : ℕ) (off : Bool) → rowNumber S forward reverse r off ≡ 0
+    → (r < S .n) × (off ≡ false) × (pointsBack (getD forward r empty) (S .q) reverse r ≡ true)
+unfolding rowNumber
+row-facts S forward reverse r off h =
+    let p5 = pass _ _ h in
+    let p6 = pass _ _ (p5 .1) in
+    (leb-false (S .n) r (unmet _ _ (p5 .0)), unmet _ _ (p6 .0), not-false (pointsBack (getD forward r empty) (S .q) reverse r) (unmet _ _ (p6 .1)))
+
+pub row-passes : (S : Settings) (forward reverse : List ℕ) (r : ℕ) (off : Bool) → r < S .n → off ≡ false
+    → pointsBack (getD forward r empty) (S .q) reverse r ≡ true → rowNumber S forward reverse r off ≡ 0
+unfolding rowNumber
+row-passes S forward reverse r off row-in span-in back =
+    passes (goes-by 5 (lt-leb (S .n) r row-in)) (passes (goes-by 6 span-in) (goes-by 7 (fails-not back)))
+
 -- ---- an inspect of row r
 
-pub inspected : (S : Settings) (σ : State) (r : ℕ) → inspectNumber S σ r ≡ 0 → r < S .n
+pub inspect-facts : (S : Settings) (σ : State) (r : ℕ) → inspectNumber S σ r ≡ 0 → (tickNumber S σ ≡ 0) × (r < S .n) × (pointersHold S σ r ≡ true)
 unfolding inspectNumber
-inspected S σ r h = let p = pass _ _ (pass _ _ h .1) in ltb-true r (S .n) (held _ _ (p .0))
+inspect-facts S σ r h =
+    let p = pass _ _ h in
+    let f = row-facts S (σ .forward) (σ .reverse) r false (p .1) in
+    (p .0, f .0, f .2)
 
 -- ---- an access of row r
 
--- past the rungs 1 to 8
-pub record Reached (S : Settings) (σ : State) (r : ℕ) (span : Bool) : Type 0 where
+-- past 1 to 8
+pub record Reached (S : Settings) (σ : State) (r : ℕ) (off : Bool) : Type 0 where
   pub fit : Fit S σ
-  pub control : controlHolds S (σ .control) (σ .counts) ≡ true
+  pub control : controlUnsound S (σ .control) (σ .counts) ≡ false
   pub row-in : r < S .n
-  pub spans : span ≡ true
+  pub span-in : off ≡ false
   pub pointers : pointersHold S σ r ≡ true
   pub more : σ .control .acts < S .l
 
 -- past 9 and the destination's 7 too
-pub record Accepted (S : Settings) (σ : State) (r : ℕ) (span : Bool) : Type 0 where
-  pub reached : Reached S σ r span
+pub record Accepted (S : Settings) (σ : State) (r : ℕ) (off : Bool) : Type 0 where
+  pub reached : Reached S σ r off
   pub room : moves S σ r ≡ true → σ .control .passed + rise σ r ≤ S .q
   pub target : moves S σ r ≡ true → destinationHolds S σ (destination S σ r) ≡ true
 
 -- refused with 9
-pub record Wanting (S : Settings) (σ : State) (r : ℕ) (span : Bool) : Type 0 where
-  pub reached : Reached S σ r span
+pub record Wanting (S : Settings) (σ : State) (r : ℕ) (off : Bool) : Type 0 where
+  pub reached : Reached S σ r off
   pub moving : moves S σ r ≡ true
   pub full : S .q < σ .control .passed + rise σ r
 
-module _ (S : Settings) (σ : State) (r : ℕ) (span : Bool) where
-  reached : tickNumber S σ ≡ 0 → ltb r (S .n) ≡ true → span ≡ true → pointersHold S σ r ≡ true → not (eqb (σ .control .acts) (S .l)) ≡ true → Reached S σ r span
-  reached t row sp po a =
-      let f = tick-facts S σ t in
-      let most : σ .control .acts ≤ S .l = steady S σ (f .1) .acts-in in
-      let n : σ .control .acts ≢ S .l = eqb-false (σ .control .acts) (S .l) (not-true (eqb (σ .control .acts) (S .l)) a) in
-      record { fit = f .0; control = f .1; row-in = ltb-true r (S .n) row; spans = sp; pointers = po; more = omega arith }
+-- rows that are looked at under a condition: they give 0,
+if-0 : (due : Bool) (x : ℕ) → cond due x 0 ≡ 0 → due ≡ true → x ≡ 0
+if-0 due x h e = rw e at h
 
-  pub accepted : accessNumber S σ r span ≡ 0 → Accepted S σ r span
-  unfolding accessNumber
+if-passes : (due : Bool) (x : ℕ) → (due ≡ true → x ≡ 0) → cond due x 0 ≡ 0
+if-passes due x h = if-all (λ y. y ≡ 0) due x refl h
+
+-- or another number
+if-more : (due : Bool) (x y : ℕ) → y ≢ 0 → cond due x 0 ≡ y → (due ≡ true) × (x ≡ y)
+if-more true x y n h = (refl, h)
+if-more false x y n h = absurd (n (sym h))
+
+module _ (S : Settings) (σ : State) (r : ℕ) (off : Bool) where
+  quarantine : ℕ
+  quarantine = quarantineNumber S (σ .control) (σ .forward) (σ .reverse) (forwardOf σ r)
+
+  reached : tickNumber S σ ≡ 0 → rowNumber S (σ .forward) (σ .reverse) r off ≡ 0 → eqb (σ .control .acts) (S .l) ≡ false → Reached S σ r off
+  reached t row a =
+      let f = tick-facts S σ t in
+      let g = row-facts S (σ .forward) (σ .reverse) r off row in
+      let most : σ .control .acts ≤ S .l = steady S σ (f .1) .acts-in in
+      let n : σ .control .acts ≢ S .l = eqb-false (σ .control .acts) (S .l) a in
+      record { fit = f .0; control = f .1; row-in = g .0; span-in = g .1; pointers = g .2; more = omega arith }
+
+  quarantine-facts : quarantine ≡ 0 → (σ .control .passed + rise σ r ≤ S .q) × (destinationHolds S σ (destination S σ r) ≡ true)
+  unfolding quarantineNumber quarantine
+  quarantine-facts h =
+      let p = pass _ _ h in
+      (ltb-false (S .q) (σ .control .passed + rise σ r) (unmet _ _ (p .0)), not-false (destinationHolds S σ (destination S σ r)) (unmet _ _ (p .1)))
+
+  quarantine-passes : σ .control .passed + rise σ r ≤ S .q → destinationHolds S σ (destination S σ r) ≡ true → quarantine ≡ 0
+  unfolding quarantineNumber quarantine
+  quarantine-passes room back = passes (goes-by 9 (le-ltb (S .q) (σ .control .passed + rise σ r) room)) (goes-by 7 (fails-not back))
+
+  quarantine-9 : quarantine ≡ 9 → S .q < σ .control .passed + rise σ r
+  unfolding quarantineNumber quarantine
+  quarantine-9 h =
+      elim (reach _ _ _ h) [
+        | inl e ↦ ltb-true (S .q) (σ .control .passed + rise σ r) (only _ _ _ e .0)
+        | inr d ↦ absurd (let z : 7 ≡ 9 = only _ _ _ (d .1) .1 in omega arith)
+      ]
+
+  pub accepted : accessNumber S σ r off ≡ 0 → Accepted S σ r off
+  unfolding accessNumber lateNumber quarantine
   accepted h =
       let p1 = pass _ _ h in
       let p2 = pass _ _ (p1 .1) in
       let p3 = pass _ _ (p2 .1) in
-      let p4 = pass _ _ (p3 .1) in
-      let p5 = pass _ _ (p4 .1) in
-      let p6 = pass _ _ (p5 .1) in
+      let q : moves S σ r ≡ true → quarantine ≡ 0 = if-0 (moves S σ r) quarantine (p3 .1) in
       record {
-        reached = reached (p1 .0) (held _ _ (p2 .0)) (held _ _ (p3 .0)) (held _ _ (p4 .0)) (held _ _ (p5 .0));
-        room = λ d. leb-true (σ .control .passed + rise σ r) (S .q) (unless (moves S σ r) (leb (σ .control .passed + rise σ r) (S .q)) (held _ _ (p6 .0)) d);
-        target = λ d. unless (moves S σ r) (destinationHolds S σ (destination S σ r)) (held _ _ (p6 .1)) d;
+        reached = reached (p1 .0) (p2 .0) (unmet _ _ (p3 .0));
+        room = λ d. quarantine-facts (q d) .0;
+        target = λ d. quarantine-facts (q d) .1;
       }
 
-  pub accepts : Accepted S σ r span → accessNumber S σ r span ≡ 0
-  unfolding accessNumber
+  pub accepts : Accepted S σ r off → accessNumber S σ r off ≡ 0
+  unfolding accessNumber lateNumber quarantine
   accepts A =
-      let R : Reached S σ r span = A .reached in
+      let R : Reached S σ r off = A .reached in
       let acts-more : σ .control .acts < S .l = R .more in
-      let differs : eqb (σ .control .acts) (S .l) ≡ false = ne-eqb (σ .control .acts) (S .l) (λ e. omega arith) in
-      let below : not (eqb (σ .control .acts) (S .l)) ≡ true = rw differs refl in
       passes (tick-passes S σ (R .fit) (R .control))
-      (passes (holds 5 (lt-ltb r (S .n) (R .row-in)))
-      (passes (holds 6 (R .spans))
-      (passes (holds 7 (R .pointers))
-      (passes (holds 8 below)
-      (passes (holds 9 (unless-holds (moves S σ r) (leb (σ .control .passed + rise σ r) (S .q)) (λ d. le-leb (σ .control .passed + rise σ r) (S .q) (A .room d))))
-      (holds 7 (unless-holds (moves S σ r) (destinationHolds S σ (destination S σ r)) (A .target))))))))
+      (passes (row-passes S (σ .forward) (σ .reverse) r off (R .row-in) (R .span-in) (R .pointers))
+      (passes (goes-by 8 (ne-eqb (σ .control .acts) (S .l) (λ e. omega arith)))
+      (if-passes (moves S σ r) quarantine (λ d. quarantine-passes (A .room d) (A .target d)))))
 
-  pub wanting : accessNumber S σ r span ≡ 9 → Wanting S σ r span
-  unfolding accessNumber
+  pub wanting : accessNumber S σ r off ≡ 9 → Wanting S σ r off
+  unfolding accessNumber lateNumber quarantine
   wanting h =
       elim (reach _ _ _ h) [
-        | inl e ↦ absurd (let z : tickNumber S σ ≤ 4 = tick-most S σ in omega arith)
-        | inr c ↦
-            let p5 = past _ 4 _ 7 (λ z. omega arith) (c .1) in
-            let p6 = past _ 5 _ 7 (λ z. omega arith) (p5 .1) in
-            let p7 = past _ 6 _ 7 (λ z. omega arith) (p6 .1) in
-            let p8 = past _ 7 _ 7 (λ z. omega arith) (p7 .1) in
-            elim (reach _ _ _ (p8 .1)) [
-              | inl e ↦
-                  let f = neither (not (moves S σ r)) (leb (σ .control .passed + rise σ r) (S .q)) (only _ _ _ e .0) in
-                  record {
-                    reached = reached (c .0) (p5 .0) (p6 .0) (p7 .0) (p8 .0);
-                    moving = not-false (moves S σ r) (f .0);
-                    full = leb-false (σ .control .passed + rise σ r) (S .q) (f .1);
-                  }
-              | inr d ↦ absurd (let z : 7 ≡ 9 = only _ _ _ (d .1) .1 in omega arith)
-            ]
+        | inl e ↦ absurd (tick-all (λ x. x ≢ 9) (λ z. omega arith) (λ z. omega arith) (λ z. omega arith) (λ z. omega arith) (λ z. omega arith) S σ e)
+        | inr c ↦ elim (reach _ _ _ (c .1)) [
+          | inl e ↦ absurd (row-all (λ x. x ≢ 9) (λ z. omega arith) (λ z. omega arith) S (σ .forward) (σ .reverse) r off (λ k z. omega arith) (λ b k z. omega arith) e)
+          | inr d ↦
+              let p = past _ 7 _ 7 (λ z. omega arith) (d .1) in
+              let m = if-more (moves S σ r) quarantine 9 (λ z. omega arith) (p .1) in
+              record { reached = reached (c .0) (d .0) (p .0); moving = m .0; full = quarantine-9 (m .1) }
+        ]
       ]

@@ -1,5 +1,6 @@
 pub mod Rungs
 pub mod Facts
+pub mod Parts
 pub mod Window
 pub mod Pointers
 pub mod Moves

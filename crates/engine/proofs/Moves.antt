@@ -1,8 +1,8 @@
 -- What an accepted access leaves in all that is lent, told without its steps. Assumes nothing.
-use Prim.Native.Nat.{ℕ, suc, _+_, _*_, _%_, _<_, _≤_}
+use Prim.Native.Nat.{ℕ, _+_, _*_, _%_, _<_, _≤_}
 use native.Mathlib.Omega.{arith}
 use mathlib.Core.Path.{_≡_, refl, sym, ap, _∙_}
-use mathlib.Core.Logic.{_⊎_, inl, inr, _≢_}
+use mathlib.Core.Logic.{inl, inr, _≢_}
 use mathlib.Core.Bool.{Bool, true, false}
 use mathlib.Core.List.{List}
 use lib.Dec.{eqb}
@@ -14,8 +14,8 @@ use Rattle.geometry.specs.Entry.{empty}
 use Rattle.geometry.proofs.Cases.{split}
 use Rattle.geometry.proofs.Facts.{Exact}
 use Rattle.tracker.proofs.View.{Counting, Tracks, tracks}
-use Rattle.rows.specs.Bytes.{copied}
-use Rattle.rows.proofs.Laws.{byteAt, length-copied, copied-to, copied-other}
+use Rattle.row_bytes.specs.Bytes.{copied}
+use Rattle.row_bytes.proofs.Laws.{byteAt, length-copied, copied-to, copied-other}
 use Rattle.engine.specs.declared.Move.{Move}
 use Rattle.engine.specs.declared.Move.the-variants.{Stayed, ToSlot, OverSlot}
 use Rattle.engine.specs.State.{State, lengthsOf, forwardOf, reverseOf}

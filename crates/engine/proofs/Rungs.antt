@@ -1,14 +1,14 @@
 -- Laws of the ladder. Assumes nothing.
-use Prim.Native.Nat.{ℕ, zero, suc, _≤_}
-use native.Mathlib.Nat.{suc-ne-zero, le-refl}
+use Prim.Native.Nat.{ℕ, suc}
+use native.Mathlib.Nat.{suc-ne-zero}
 use native.Mathlib.Omega.{arith}
-use mathlib.Core.Path.{_≡_, refl, sym, _∙_}
+use mathlib.Core.Path.{_≡_, refl, sym}
 use mathlib.Core.Logic.{_⊎_, inl, inr, _≢_}
-use mathlib.Core.Bool.{Bool, true, false, cond, not, _||_, true≢false, false≢true}
+use mathlib.Core.Bool.{Bool, true, false, cond, _||_}
 use lib.Dec.{eqb}
-use borrow.Author.Tests.{eqb-true, eqb-false}
+use borrow.Author.Tests.{eqb-true, eqb-false, ne-eqb}
 use Rattle.geometry.proofs.Cases.{split}
-use Rattle.engine.specs.Ladder.{rung, _▹_}
+use Rattle.engine.specs.Ladder.{stops, _▹_}
 
 -- ---- a ladder that answers 0
 
@@ -19,22 +19,35 @@ pass a b h = elim (split (eqb a 0)) [
   | inr e ↦ absurd (eqb-false a 0 e (rw e at h))
 ]
 
-pub held : (test : Bool) (x : ℕ) → rung test (suc x) ≡ 0 → test ≡ true
-unfolding rung
-held true x h = refl
-held false x h = absurd (suc-ne-zero x h)
+pub unmet : (condition : Bool) (x : ℕ) → stops condition (suc x) ≡ 0 → condition ≡ false
+unfolding stops
+unmet true x h = absurd (suc-ne-zero x h)
+unmet false x h = refl
 
 pub passes : {a b : ℕ} → a ≡ 0 → b ≡ 0 → a ▹ b ≡ 0
 unfolding _▹_
 passes e f = rw (e, f)
 
-pub holds : {test : Bool} (x : ℕ) → test ≡ true → rung test x ≡ 0
-unfolding rung
-holds x e = rw e
+pub goes-by : {condition : Bool} (x : ℕ) → condition ≡ false → stops condition x ≡ 0
+unfolding stops
+goes-by x e = rw e
 
 -- ---- a ladder that answers another number
 
--- this rung gives it, or it is passed and the rest gives it
+-- it stops at its first number, and goes on past a row that does not apply
+pub halts : {a : ℕ} (b : ℕ) → a ≢ 0 → a ▹ b ≡ a
+unfolding _▹_
+halts {a} b n = rw (ne-eqb a 0 n)
+
+pub goes-on : {a : ℕ} (b : ℕ) → a ≡ 0 → a ▹ b ≡ b
+unfolding _▹_
+goes-on b e = rw e
+
+pub applies : {condition : Bool} (x : ℕ) → condition ≡ true → stops condition x ≡ x
+unfolding stops
+applies x e = rw e
+
+-- this row gives it, or it is passed and the rest gives it
 pub reach : (a b x : ℕ) → a ▹ b ≡ x → (a ≡ x) ⊎ ((a ≡ 0) × (b ≡ x))
 unfolding _▹_
 reach a b x h = elim (split (eqb a 0)) [
@@ -42,46 +55,39 @@ reach a b x h = elim (split (eqb a 0)) [
   | inr e ↦ inl (rw e at h)
 ]
 
--- a rung gives its own number alone, and then its test failed
-pub only : (test : Bool) (x y : ℕ) → rung test x ≡ suc y → (test ≡ false) × (x ≡ suc y)
-unfolding rung
-only true x y h = absurd (suc-ne-zero y (sym h))
-only false x y h = (refl, h)
+-- a row gives its own number alone, and then its condition applies
+pub only : (condition : Bool) (x y : ℕ) → stops condition x ≡ suc y → (condition ≡ true) × (x ≡ suc y)
+unfolding stops
+only true x y h = (refl, h)
+only false x y h = absurd (suc-ne-zero y (sym h))
 
--- past a rung with another number
-pub past : (test : Bool) (x b y : ℕ) → x ≢ suc y → rung test (suc x) ▹ b ≡ suc (suc y) → (test ≡ true) × (b ≡ suc (suc y))
-past test x b y n h =
-    elim (reach (rung test (suc x)) b (suc (suc y)) h) [
-      | inl e ↦ absurd (n (let k : suc x ≡ suc (suc y) = only test (suc x) (suc y) e .1 in omega arith))
-      | inr c ↦ (held test x (c .0), c .1)
+-- past a row with another number
+pub past : (condition : Bool) (x b y : ℕ) → x ≢ suc y → stops condition (suc x) ▹ b ≡ suc (suc y)
+    → (condition ≡ false) × (b ≡ suc (suc y))
+past condition x b y n h =
+    elim (reach (stops condition (suc x)) b (suc (suc y)) h) [
+      | inl e ↦ absurd (n (let k : suc x ≡ suc (suc y) = only condition (suc x) (suc y) e .1 in omega arith))
+      | inr c ↦ (unmet condition x (c .0), c .1)
     ]
 
 -- ---- what holds of every number that a ladder can give
 
-pub rung-all : (P : ℕ → Type 0) (test : Bool) (x : ℕ) → P 0 → P x → P (rung test x)
-unfolding rung
-rung-all P true x z y = z
-rung-all P false x z y = y
+pub stops-all : (P : ℕ → Type 0) (condition : Bool) (x : ℕ) → P 0 → (condition ≡ true → P x) → P (stops condition x)
+unfolding stops
+stops-all P true x z h = h refl
+stops-all P false x z h = z
 
 pub ladder-all : (P : ℕ → Type 0) (a b : ℕ) → P a → (a ≡ 0 → P b) → P (a ▹ b)
 unfolding _▹_
 ladder-all P a b h k = elim (split (eqb a 0)) [ inl e ↦ rw e (k (eqb-true a 0 e)) | inr e ↦ rw e h ]
+
+-- rows that are looked at under a condition alone
+pub if-all : (P : ℕ → Type 0) (due : Bool) (x : ℕ) → P 0 → (due ≡ true → P x) → P (cond due x 0)
+if-all P true x z h = h refl
+if-all P false x z h = z
 
 -- ---- tests
 
 pub either : (a b : Bool) → (a || b) ≡ true → (a ≡ true) ⊎ (b ≡ true)
 either true b h = inl refl
 either false b h = inr h
-
-pub neither : (a b : Bool) → (a || b) ≡ false → (a ≡ false) × (b ≡ false)
-neither true b h = absurd (true≢false h)
-neither false b h = (refl, h)
-
--- 'not a, or b', where a
-pub unless : (a b : Bool) → (not a || b) ≡ true → a ≡ true → b ≡ true
-unless true b h e = h
-unless false b h e = absurd (false≢true e)
-
-pub unless-holds : (a b : Bool) → (a ≡ true → b ≡ true) → (not a || b) ≡ true
-unless-holds true b h = h refl
-unless-holds false b h = refl

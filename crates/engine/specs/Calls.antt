@@ -7,15 +7,14 @@ use mathlib.Core.List.{List, []}
 use lib.Dec.{eqb}
 use lib.ListN.{length, replicate}
 use Rattle.geometry.specs.declared.Settings.{Settings}
-use Rattle.geometry.specs.declared.Control.{Control}
 use Rattle.geometry.specs.Numbering.{physical}
 use Rattle.geometry.specs.Entry.{empty}
-use Rattle.rows.specs.Bytes.{rowBytes, written}
+use Rattle.row_bytes.specs.Bytes.{rowBytes, written}
 use Rattle.engine.specs.declared.Access.{Access}
 use Rattle.engine.specs.declared.Access.the-variants.{Refused, Done}
 use Rattle.engine.specs.State.{State}
-use Rattle.engine.specs.Steps.{place, move, accessed}
-use Rattle.engine.specs.Ladder.{setUpNumber, tickNumber, inspectNumber, accessNumber, readSpan, writeSpan}
+use Rattle.engine.specs.Steps.{place, move, stateAfter}
+use Rattle.engine.specs.Ladder.{setUpNumber, tickNumber, inspectNumber, accessNumber, readOff, writeOff}
 
 -- ---- set-up and tick answer a number
 
@@ -30,7 +29,8 @@ notedOf σ number = record { state = σ; number = number }
 unfoldable pub noted : State → ℕ → State → Noted
 noted σ number effect = record { state = cond (eqb number 0) effect σ; number = number }
 
--- 'Set-up fills both pointer tables and the tracker rows with 65535, the counts and the four fields with 0, and leaves the store.'
+-- 'Set-up fills both pointer tables and the tracker rows with 65535, the counts and the four fields with 0, and leaves
+-- the store.'
 abbrev pub cleared : Settings → State → State
 cleared S σ =
     record {
@@ -71,12 +71,12 @@ pub record Accessed : Type 0 where
 abbrev pub accessedOf : State → Access → List ℕ → Accessed
 accessedOf σ answer buffer = record { state = σ; answer = answer; buffer = buffer }
 
--- an access of row r; 'Control record and all lent memory remain as before the call, the read buffer too' where it is refused.
--- store: the store after step 3; filled: the buffer where it is accepted
-unfoldable pub answered : Settings → State → ℕ → ℕ → List ℕ → List ℕ → List ℕ → Accessed
-answered S σ r number store filled buffer =
+-- an access of row r with that number: the effect where it is 0, and where it is not 'Control record and all lent memory
+-- remain as before the call, the read buffer too'. store: the store after step 3; filled: the buffer if it is accepted
+unfoldable pub accessed : Settings → State → ℕ → ℕ → List ℕ → List ℕ → List ℕ → Accessed
+accessed S σ r number store filled buffer =
     record {
-      state = cond (eqb number 0) (accessed S σ r store) σ;
+      state = cond (eqb number 0) (stateAfter S σ r store) σ;
       answer = cond (eqb number 0) (Done (physical (place S σ r)) (move S σ r)) (Refused number);
       buffer = cond (eqb number 0) filled buffer;
     }
@@ -84,12 +84,16 @@ answered S σ r number store filled buffer =
 -- 'Read takes a row and a buffer of exactly W bytes, which it fills.'
 unfoldable pub read : Settings → State → ℕ → List ℕ → Accessed
 read S σ r buffer =
-    answered S σ r (accessNumber S σ r (readSpan S (length buffer))) (σ .store) (rowBytes (S .w) (σ .store) (place S σ r)) buffer
+    accessed S σ r (accessNumber S σ r (readOff S (length buffer)))
+    (σ .store)
+    (rowBytes (S .w) (σ .store) (place S σ r)) buffer
 
 -- 'Write takes a row, a column and bytes; column plus count may be at most W.'
 unfoldable pub write : Settings → State → ℕ → ℕ → List ℕ → Accessed
 write S σ r column bytes =
-    answered S σ r (accessNumber S σ r (writeSpan S column (length bytes))) (written (S .w) (σ .store) (place S σ r) column bytes) [] []
+    accessed S σ r (accessNumber S σ r (writeOff S column (length bytes)))
+    (written (S .w) (σ .store) (place S σ r) column bytes)
+    [] []
 
 -- ---- inspect answers `inspectNumber` by one call and this part by the other
 

@@ -1,7 +1,8 @@
--- Document 01, 'Where each call can stop': the number that a call answers, 0 where it is accepted.
+-- Document 01, 'Where each call can stop': the number that a call answers, 0 where it is accepted. Each row of the table
+-- stands once, as `stops condition number`, with the table's condition.
 -- Assumes nothing.
 use Prim.Native.Nat.{ℕ, _+_}
-use mathlib.Core.Bool.{Bool, cond, not, _&&_, _||_}
+use mathlib.Core.Bool.{Bool, false, cond, not, _&&_, _||_}
 use mathlib.Core.List.{List}
 use lib.Dec.{ltb, leb, eqb}
 use lib.ListN.{getD}
@@ -11,70 +12,88 @@ use Rattle.geometry.specs.declared.Lengths.{Lengths}
 use Rattle.geometry.specs.Conditions.{rangesHold, limitHolds, lengthsHold}
 use Rattle.geometry.specs.Entry.{empty}
 use Rattle.tracker.specs.Scan.{some}
-use Rattle.engine.specs.State.{State, lengthsOf, forwardOf, reverseOf}
-use Rattle.engine.specs.Steps.{moves, destination, rise}
+use Rattle.engine.specs.State.{State, lengthsOf, forwardOf}
+use Rattle.engine.specs.Steps.{moves, destinationFrom, riseFrom}
 
 infixr 20 _▹_
--- a rung of the ladder: its number where its condition applies, that is, where the test fails
-unfoldable pub rung : Bool → ℕ → ℕ
-rung test number = cond test 0 number
+-- a row of the table: its number where its condition applies, else 0
+unfoldable pub stops : Bool → ℕ → ℕ
+stops condition number = cond condition number 0
 
 -- 'The first that applies is answered, and only then.'
 unfoldable pub _▹_ : ℕ → ℕ → ℕ
-upper ▹ lower = cond (eqb upper 0) lower upper
+first ▹ next = cond (eqb first 0) next first
 
--- 1, 2 and 3
+-- ---- the rows of the table
+
+-- settings: 'one is outside its range'; settings together: 'L is A × (K + 1) or more'
+unfoldable pub settingsNumber : Settings → ℕ
+settingsNumber S = stops (not (rangesHold S)) 1 ▹ stops (not (limitHolds S)) 2
+
+-- buffers: 'a table, tracker part or store has another length'
 unfoldable pub fitNumber : Settings → Lengths → ℕ
-fitNumber S lent = rung (rangesHold S) 1 ▹ rung (limitHolds S) 2 ▹ rung (lengthsHold S lent) 3
+fitNumber S lent = settingsNumber S ▹ stops (not (lengthsHold S lent)) 3
 
--- 4: 'head ≥ Q, passed > Q, acts > L, spill > acts, spill ≥ A, or some count > acts'
-unfoldable pub controlHolds : Settings → Control → List ℕ → Bool
-controlHolds S control counts =
-    ltb (control .head) (S .q)
-    && leb (control .passed) (S .q)
-    && leb (control .acts) (S .l)
-    && leb (control .spill) (control .acts)
-    && ltb (control .spill) (S .a)
-    && not (some (λ count. ltb (control .acts) count) counts)
+-- control and tracker: 'head ≥ Q, passed > Q, acts > L, spill > acts, spill ≥ A, or some count > acts'
+unfoldable pub controlUnsound : Settings → Control → List ℕ → Bool
+controlUnsound S control counts =
+    leb (S .q) (control .head)
+    || ltb (S .q) (control .passed)
+    || ltb (S .l) (control .acts)
+    || ltb (control .acts) (control .spill)
+    || leb (S .a) (control .spill)
+    || some (λ count. ltb (control .acts) count) counts
 
--- an entry is empty, or below `limit` and x is what the other table has for it
+-- an entry is 65535, or below `limit` and x is what the other table has for it
 unfoldable pub pointsBack : ℕ → ℕ → List ℕ → ℕ → Bool
 pointsBack entry limit other x = eqb entry empty || (ltb entry limit && eqb (getD other entry empty) x)
 
--- 7, row's pointers: 'forward entry is neither 65535 nor a slot whose reverse entry names the row'
-abbrev pub pointersHold : Settings → State → ℕ → Bool
-pointersHold S σ r = pointsBack (forwardOf σ r) (S .q) (σ .reverse) r
+-- row: 'row ≥ N'; span: 'read buffer not W long; write runs past W' (off: that condition, by which the calls differ);
+-- row's pointers: 'forward entry is neither 65535 nor a slot whose reverse entry names the row'
+unfoldable pub rowNumber : Settings → List ℕ → List ℕ → ℕ → Bool → ℕ
+rowNumber S forward reverse r off =
+    stops (leb (S .n) r) 5
+    ▹ stops off 6
+    ▹ stops (not (pointsBack (getD forward r empty) (S .q) reverse r)) 7
 
--- 7, destination: 'reverse of d is neither 65535 nor a row whose forward entry names d'
-abbrev pub destinationHolds : Settings → State → ℕ → Bool
-destinationHolds S σ d = pointsBack (reverseOf σ d) (S .n) (σ .forward) d
+-- the condition of 6: 'read buffer not W long',
+abbrev pub readOff : Settings → ℕ → Bool
+readOff S count = not (eqb count (S .w))
 
--- the column 'calls' of the table. Set-up:
+-- 'write runs past W'
+abbrev pub writeOff : Settings → ℕ → ℕ → Bool
+writeOff S column count = ltb (S .w) (column + count)
+
+-- of an access that would quarantine its row, whose forward entry is `entry`. Quarantine: 'passed plus the rise of step 4
+-- exceeds Q'; destination: 'reverse of d is neither 65535 nor a row whose forward entry names d'
+unfoldable pub quarantineNumber : Settings → Control → List ℕ → List ℕ → ℕ → ℕ
+quarantineNumber S control forward reverse entry =
+    let d : ℕ = destinationFrom S (control .head) entry in
+    stops (ltb (S .q) (control .passed + riseFrom (control .head) entry)) 9
+    ▹ stops (not (pointsBack (getD reverse d empty) (S .n) forward d)) 7
+
+-- epoch: 'acts = L'; then the two rows above, if the access would quarantine its row (due)
+unfoldable pub lateNumber : Settings → Control → List ℕ → List ℕ → ℕ → Bool → ℕ
+lateNumber S control forward reverse entry due =
+    stops (eqb (control .acts) (S .l)) 8 ▹ cond due (quarantineNumber S control forward reverse entry) 0
+
+-- ---- the column 'calls' of the table
+
+-- set-up
 abbrev pub setUpNumber : Settings → State → ℕ
 setUpNumber S σ = fitNumber S (lengthsOf σ)
 
--- tick:
+-- tick
 unfoldable pub tickNumber : Settings → State → ℕ
-tickNumber S σ = setUpNumber S σ ▹ rung (controlHolds S (σ .control) (σ .counts)) 4
+tickNumber S σ = setUpNumber S σ ▹ stops (controlUnsound S (σ .control) (σ .counts)) 4
 
--- inspect, of row r:
+-- inspect, of row r; it has no span
 unfoldable pub inspectNumber : Settings → State → ℕ → ℕ
-inspectNumber S σ r = tickNumber S σ ▹ rung (ltb r (S .n)) 5 ▹ rung (pointersHold S σ r) 7
+inspectNumber S σ r = tickNumber S σ ▹ rowNumber S (σ .forward) (σ .reverse) r false
 
--- read and write, of row r; span: the test of 6, by which the two differ
+-- read and write, of row r
 unfoldable pub accessNumber : Settings → State → ℕ → Bool → ℕ
-accessNumber S σ r span =
+accessNumber S σ r off =
     tickNumber S σ
-    ▹ rung (ltb r (S .n)) 5
-    ▹ rung span 6
-    ▹ rung (pointersHold S σ r) 7
-    ▹ rung (not (eqb (σ .control .acts) (S .l))) 8
-    ▹ rung (not (moves S σ r) || leb (σ .control .passed + rise σ r) (S .q)) 9
-    ▹ rung (not (moves S σ r) || destinationHolds S σ (destination S σ r)) 7
-
--- 6: 'read buffer not W long; write runs past W'
-abbrev pub readSpan : Settings → ℕ → Bool
-readSpan S count = eqb count (S .w)
-
-abbrev pub writeSpan : Settings → ℕ → ℕ → Bool
-writeSpan S column count = leb (column + count) (S .w)
+    ▹ rowNumber S (σ .forward) (σ .reverse) r off
+    ▹ lateNumber S (σ .control) (σ .forward) (σ .reverse) (forwardOf σ r) (moves S σ r)

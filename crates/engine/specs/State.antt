@@ -31,7 +31,7 @@ lengthsOf σ =
       counts = length (σ .counts);
     }
 
--- the forward entry of a visible row, and the reverse entry of a slot (behind a table's end nothing is named)
+-- the forward entry of a visible row, and the reverse entry of a slot (past a table's end nothing is named)
 abbrev pub forwardOf : State → ℕ → ℕ
 forwardOf σ r = getD (σ .forward) r empty
 

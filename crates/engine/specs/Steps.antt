@@ -4,15 +4,16 @@ use Prim.Native.Nat.{ℕ, suc, _+_, _%_}
 use mathlib.Core.Bool.{Bool, cond}
 use mathlib.Core.List.{List}
 use lib.Dec.{eqb}
-use lib.ListN.{set}
+use lib.ListN.{getD, set}
 use Rattle.geometry.specs.declared.Settings.{Settings}
+use Rattle.geometry.specs.declared.Control.{Control}
 use Rattle.geometry.specs.Numbering.{visible, slot, homeRow, slotRow}
 use Rattle.geometry.specs.Entry.{empty}
 use Rattle.tracker.specs.Track.{Tracked, track, isDue}
-use Rattle.rows.specs.Bytes.{copied}
+use Rattle.row_bytes.specs.Bytes.{copied}
 use Rattle.engine.specs.declared.Move.{Move}
 use Rattle.engine.specs.declared.Move.the-variants.{Stayed, ToSlot, OverSlot}
-use Rattle.engine.specs.State.{State, forwardOf, reverseOf}
+use Rattle.engine.specs.State.{State, forwardOf}
 
 -- 1. 'Place p: slot s's physical row if the row's forward entry is s, else its home.'
 abbrev pub placeBy : Settings → ℕ → ℕ → ℕ
@@ -44,12 +45,18 @@ riseFrom head entry = cond (eqb entry head) 2 1
 abbrev pub rise : State → ℕ → ℕ
 rise σ r = riseFrom (σ .control .head) (forwardOf σ r)
 
--- 'If the reverse entry of d names a row v': where the row goes, and which row is sent home (held: the reverse entry of d)
+-- 'If the reverse entry of d names a row v': where the row goes, and which row is sent home (held: d's reverse entry)
 abbrev pub moveInto : ℕ → ℕ → Move
 moveInto d held = cond (eqb held empty) (ToSlot (slot d)) (OverSlot (slot d) (visible held))
 
+-- where a row with that forward entry goes, if it is quarantined (due)
+abbrev pub moveFrom : Settings → ℕ → List ℕ → ℕ → Bool → Move
+moveFrom S head reverse entry due =
+    let d : ℕ = destinationFrom S head entry in
+    cond due (moveInto d (getD reverse d empty)) Stayed
+
 unfoldable pub move : Settings → State → ℕ → Move
-move S σ r = cond (moves S σ r) (moveInto (destination S σ r) (reverseOf σ (destination S σ r))) Stayed
+move S σ r = moveFrom S (σ .control .head) (σ .reverse) (forwardOf σ r) (moves S σ r)
 
 -- 'slot d is copied to v's home .. Then p is copied to slot d.'
 abbrev pub storeAfter : Settings → List ℕ → ℕ → Move → List ℕ
@@ -85,22 +92,45 @@ passedAfter passed up Stayed = passed
 passedAfter passed up (ToSlot d) = passed + up
 passedAfter passed up (OverSlot d v) = passed + up
 
--- all that is lent after the four steps; store: what step 3 left there ('The bytes are read or written at p')
-abbrev pub settled : Settings → State → ℕ → List ℕ → Move → State
-settled S σ r store m =
+-- ---- what is left
+
+-- 2 and 3: '`acts` rises by 1' (spill: what step 2 leaves)
+abbrev pub controlCounted : ℕ → Control → Control
+controlCounted spill control =
+    record { head = control .head; passed = control .passed; spill = spill; acts = suc (control .acts) }
+
+-- 2 and 3: all that is lent after them; store: with the bytes written at p, if it is a write
+abbrev pub counted : Settings → State → ℕ → List ℕ → State
+counted S σ r store =
     record {
-      store = storeAfter S store (place S σ r) m;
-      forward = forwardAfter (σ .forward) r m;
-      reverse = reverseAfter (σ .reverse) (forwardOf σ r) r m;
+      store = store;
+      forward = σ .forward;
+      reverse = σ .reverse;
       rows = (tracked S σ r) .rows;
       counts = (tracked S σ r) .counts;
+      control = controlCounted ((tracked S σ r) .spill) (σ .control);
+    }
+
+-- 4, of row r at place p
+abbrev pub relocated : Settings → ℕ → ℕ → Move → State → State
+relocated S r p m σ =
+    record {
+      store = storeAfter S (σ .store) p m;
+      forward = forwardAfter (σ .forward) r m;
+      reverse = reverseAfter (σ .reverse) (forwardOf σ r) r m;
+      rows = σ .rows;
+      counts = σ .counts;
       control = record {
         head = headAfter S (σ .control .head) m;
         passed = passedAfter (σ .control .passed) (rise σ r) m;
-        spill = (tracked S σ r) .spill;
-        acts = suc (σ .control .acts);
+        spill = σ .control .spill;
+        acts = σ .control .acts;
       };
     }
 
-abbrev pub accessed : Settings → State → ℕ → List ℕ → State
-accessed S σ r store = settled S σ r store (move S σ r)
+-- all four
+abbrev pub settled : Settings → State → ℕ → List ℕ → Move → State
+settled S σ r store m = relocated S r (place S σ r) m (counted S σ r store)
+
+abbrev pub stateAfter : Settings → State → ℕ → List ℕ → State
+stateAfter S σ r store = settled S σ r store (move S σ r)

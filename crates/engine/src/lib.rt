@@ -1,5 +1,5 @@
-// What the engine of one rank answers. What each call does and answers stands in specs/: `Steps` (one access), `Ladder` (the
-// refusals) and `Calls` (the five calls). The code that meets it: crates `ladder` and `calls`.
+// What the engine of one rank answers. What each call does and answers stands in specs/: `Steps` (one access), `Ladder`
+// (the refusals) and `Calls` (the five calls). The code that meets it: crates `ladder` and `calls`.
 use geometry::PhysicalRow;
 use geometry::Slot;
 use geometry::VisibleRow;

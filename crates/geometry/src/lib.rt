@@ -1,5 +1,5 @@
 // The geometry of one rank: settings, control record, the three numberings, pointer entries, and the
-// conditions behind refusals 1, 2 and 3. Every function answers for any argument.
+// conditions of refusals 1, 2 and 3. Every function answers for any argument.
 ghost use mathlib.Core.Path.{_≡_};
 ghost use lib.ListN.{length, replicate};
 ghost use Rattle.geometry.specs.Numbering.{homeOf, slotRowOf};

@@ -1,7 +1,7 @@
 -- An accepted access carries the invariant on. Assumes nothing.
-use Prim.Native.Nat.{ℕ, suc, _+_, _*_, _/_, _%_, _<_, _≤_}
+use Prim.Native.Nat.{ℕ, _+_, _*_, _/_, _<_, _≤_}
 use native.Mathlib.Omega.{arith}
-use mathlib.Core.Path.{_≡_, refl, sym, ap, _∙_}
+use mathlib.Core.Path.{_≡_, sym, ap, _∙_}
 use mathlib.Core.Logic.{_≢_}
 use mathlib.Core.Bool.{Bool, true, false}
 use mathlib.Core.List.{List}
@@ -16,13 +16,18 @@ use Rattle.tracker.proofs.View.{Tracks, quotients-few}
 use Rattle.engine.specs.declared.Move.{Move}
 use Rattle.engine.specs.declared.Move.the-variants.{Stayed, ToSlot, OverSlot}
 use Rattle.engine.specs.State.{State, forwardOf}
-use Rattle.engine.specs.Steps.{place, tracked, moves, rise, move, settled, accessed}
+use Rattle.engine.specs.Answer.{slotMovedTo, rowSentHome}
+use Rattle.engine.specs.Steps.{place, tracked, moves, rise, move, settled, stateAfter}
 use Rattle.engine.proofs.Pointers.{marks-none, holder, inverse-moved}
 use Rattle.engine.proofs.Moves.{Moved, rise-most, tracks-access, counting-settled, Fate, stays, goes, ousts, fate}
 use Rattle.history.specs.Tally as tally
 use Rattle.history.proofs.Tallied.{Tallied, tallied-to, tallied-over}
 use Rattle.history.proofs.Invariant.{Inv}
 use Rattle.history.proofs.Rows.{Estimated, home-stays, slot-stays, place-moves, home-moves, slot-moves}
+
+-- the tally after an access of row r that leaves it so
+abbrev pub tallyAfter : Settings → tally.Tally → ℕ → Move → tally.Tally
+tallyAfter S τ r m = tally.afterAccess S τ r (slotMovedTo m) (rowSentHome m)
 
 module _ (S : Settings) (σ : State) (τ₀ τ : tally.Tally) (I : Inv S σ τ₀ τ) (r : ℕ) (row-in : r < S .n) (more : σ .control .acts < S .l) where
   T : Tracks (S .a) (S .k) (place S σ r) (σ .rows) (σ .counts) (σ .control .spill) (σ .control .acts) (tracked S σ r)
@@ -41,7 +46,7 @@ module _ (S : Settings) (σ : State) (τ₀ τ : tally.Tally) (I : Inv S σ τ�
     estimated : (m : Move) → Estimated S σ (settled S σ r store m) (place S σ r)
     estimated m = record { same = T .same; other = T .other }
 
-    stayed : moves S σ r ≡ false → Inv S (settled S σ r store Stayed) τ₀ (tally.accessed S τ r Stayed)
+    stayed : moves S σ r ≡ false → Inv S (settled S σ r store Stayed) τ₀ (tally.afterStay S τ r)
     stayed e =
         record {
           ranges = I .ranges;
@@ -72,8 +77,8 @@ module _ (S : Settings) (σ : State) (τ₀ τ : tally.Tally) (I : Inv S σ τ�
     free : {d : ℕ} {σ′ : State} → Moved S σ r store d σ′ → d ≢ forwardOf σ r
     free {d} M e = eqb-false (forwardOf σ r) d (M .slide .free) (sym e)
 
-    moved : (d : ℕ) (m : Move) → moves S σ r ≡ true → Moved S σ r store d (settled S σ r store m) → Tallied S σ τ (tally.accessed S τ r m) r d
-        → Inv S (settled S σ r store m) τ₀ (tally.accessed S τ r m)
+    moved : (d : ℕ) (m : Move) → moves S σ r ≡ true → Moved S σ r store d (settled S σ r store m) → Tallied S σ τ (tallyAfter S τ r m) r d
+        → Inv S (settled S σ r store m) τ₀ (tallyAfter S τ r m)
     moved d m e M told =
         record {
           ranges = I .ranges;
@@ -89,12 +94,12 @@ module _ (S : Settings) (σ : State) (τ₀ τ : tally.Tally) (I : Inv S σ τ�
           counting = counting-settled S σ (I .sound) r row-in store m T;
           quarantines = omega (arith, I .quarantines, counted true e, told .quarantine);
           passed-few = omega (arith, I .passed-few, counted true e, M .passed, rise-most σ r);
-          places = place-moves S σ τ₀ τ I r row-in (settled S σ r store m) (estimated m) d (tally.accessed S τ r m) (M .links) told (M .slide);
-          homes = home-moves S σ τ₀ τ I r row-in (settled S σ r store m) (estimated m) d (tally.accessed S τ r m) (M .links) told (M .slide);
-          slots = slot-moves S σ τ₀ τ I r row-in (settled S σ r store m) (estimated m) d (tally.accessed S τ r m) (M .links) told (M .slide);
+          places = place-moves S σ τ₀ τ I r row-in (settled S σ r store m) (estimated m) d (tallyAfter S τ r m) (M .links) told (M .slide);
+          homes = home-moves S σ τ₀ τ I r row-in (settled S σ r store m) (estimated m) d (tallyAfter S τ r m) (M .links) told (M .slide);
+          slots = slot-moves S σ τ₀ τ I r row-in (settled S σ r store m) (estimated m) d (tallyAfter S τ r m) (M .links) told (M .slide);
         }
 
-    by-fate : (m : Move) → Fate S σ (I .sound) r row-in store m → Inv S (settled S σ r store m) τ₀ (tally.accessed S τ r m)
+    by-fate : (m : Move) → Fate S σ (I .sound) r row-in store m → Inv S (settled S σ r store m) τ₀ (tallyAfter S τ r m)
     by-fate m (stays e) = stayed e
     by-fate m (goes e d vacant M) =
         moved d (ToSlot (slot d)) e M
@@ -108,5 +113,5 @@ module _ (S : Settings) (σ : State) (τ₀ τ : tally.Tally) (I : Inv S σ τ�
     pub its-fate : Fate S σ (I .sound) r row-in store (move S σ r)
     its-fate = fate S σ (I .sound) r row-in T (I .head-in) room store long
 
-    pub inv-access : Inv S (accessed S σ r store) τ₀ (tally.accessed S τ r (move S σ r))
+    pub inv-access : Inv S (stateAfter S σ r store) τ₀ (tallyAfter S τ r (move S σ r))
     inv-access = by-fate (move S σ r) its-fate

@@ -1,17 +1,16 @@
 -- Each row's bytes stand at its place, whatever moves. Assumes nothing.
-use Prim.Native.Nat.{ℕ, _+_, _*_, _%_, _<_, _≤_}
+use Prim.Native.Nat.{ℕ, _+_, _*_, _<_, _≤_}
 use native.Mathlib.Omega.{arith}
-use mathlib.Core.Path.{_≡_, refl, sym, ap, _∙_}
+use mathlib.Core.Path.{_≡_, refl, sym, _∙_}
 use mathlib.Core.Logic.{_⊎_, inl, inr, _≢_}
-use mathlib.Core.Bool.{true}
 use mathlib.Core.List.{List}
 use lib.ListN.{length, getD-replicate}
-use borrow.Author.Tests.{eqb-false, eq-eqb, ne-eqb, lt-ltb, le-ltb, le-leb, lt-leb}
+use borrow.Author.Tests.{eq-eqb, ne-eqb, lt-ltb, le-ltb, le-leb, lt-leb}
 use Rattle.geometry.specs.declared.Settings.{Settings}
 use Rattle.geometry.specs.Entry.{empty}
 use Rattle.geometry.proofs.Cases.{eq?, lt?}
-use Rattle.rows.specs.Bytes.{rowBytes, written}
-use Rattle.rows.proofs.Laws.{byteAt, length-rowBytes, rowBytes-at, written-in, written-beside, written-other}
+use Rattle.row_bytes.specs.Bytes.{rowBytes, written}
+use Rattle.row_bytes.proofs.Laws.{byteAt, length-rowBytes, rowBytes-at, written-in, written-beside, written-other}
 use Rattle.engine.specs.declared.Move.{Move}
 use Rattle.engine.specs.State.{State, forwardOf}
 use Rattle.engine.specs.Steps.{place, settled}

@@ -1,44 +1,38 @@
 -- One call: it carries the invariant on, and what it answers. Assumes nothing.
-use Prim.Native.Nat.{ℕ, suc, _+_, _*_, _/_, _<_, _≤_, zero-le}
+use Prim.Native.Nat.{ℕ, _+_, _*_, _/_, _<_, _≤_, zero-le}
 use native.Mathlib.Omega.{arith}
-use mathlib.Core.Path.{_≡_, refl, sym, ap, _∙_}
+use mathlib.Core.Path.{_≡_, refl, sym, _∙_}
 use mathlib.Core.Logic.{_⊎_, inl, inr, _≢_}
-use mathlib.Core.Bool.{Bool, true, false, cond, _&&_}
+use mathlib.Core.Bool.{Bool, true, false, true≢false}
 use mathlib.Core.List.{List, []}
-use lib.Dec.{ltb, eqb}
-use lib.ListN.{length, getD, replicate, getD-replicate, length-replicate}
-use borrow.Author.Tests.{eqb-true, eqb-false, eq-eqb, ltb-true, leb-true}
+use lib.Dec.{eqb}
+use lib.ListN.{length, length-replicate}
+use borrow.Author.Tests.{eqb-true, eq-eqb, ltb-false}
 use Rattle.geometry.specs.declared.Settings.{Settings}
-use Rattle.geometry.specs.Numbering.{physical}
 use Rattle.geometry.specs.Conditions.{rangesHold, limitHolds}
 use Rattle.geometry.specs.Entry.{empty}
-use Rattle.geometry.proofs.Cases.{split, eq?}
-use Rattle.geometry.proofs.Facts.{Ranges, Exact, ranges-facts, limit-fact, lengths-facts, lengths-hold}
-use Rattle.tracker.proofs.Sums.{quotients}
-use Rattle.tracker.proofs.View.{Counting, counting-new, estimate-new, quotients-new, quotients-few, spill-within, spill-below, count-within}
-use Rattle.rows.specs.Bytes.{rowBytes, written}
-use Rattle.rows.proofs.Laws.{length-written}
-use Rattle.engine.specs.declared.Move.{Move}
-use Rattle.engine.specs.declared.Access.{Access}
-use Rattle.engine.specs.declared.Access.the-variants.{Refused, Done}
+use Rattle.geometry.proofs.Cases.{split}
+use Rattle.geometry.proofs.Facts.{limit-fact, lengths-hold}
+use Rattle.tracker.proofs.View.{counting-new, estimate-new, quotients-new, quotients-few, spill-within, spill-below, count-within}
+use Rattle.row_bytes.specs.Bytes.{rowBytes, written}
+use Rattle.row_bytes.proofs.Laws.{length-written}
 use Rattle.engine.specs.State.{State, lengthsOf, forwardOf, reverseOf}
-use Rattle.engine.specs.Answer.{numberOf, placeOf, moveOf}
-use Rattle.engine.specs.Steps.{place, moves, destination, move, accessed}
-use Rattle.engine.specs.Ladder.{rung, _▹_, controlHolds, destinationHolds, setUpNumber, tickNumber, inspectNumber, accessNumber, readSpan, writeSpan}
+use Rattle.engine.specs.Answer.{numberOf, placeOf}
+use Rattle.engine.specs.Steps.{place, moves, destination, move, stateAfter}
+use Rattle.engine.specs.Ladder.{pointsBack, rowNumber, tickNumber, inspectNumber, accessNumber, readOff, writeOff}
 use Rattle.engine.specs.Calls as calls
-use Rattle.engine.proofs.Rungs.{held, holds, rung-all, ladder-all, unless-holds}
-use Rattle.engine.proofs.Facts.{Fit, fit, Steady, steady-holds, tick-passes, tick-most, inspect-most, row-holds, slot-holds, Accepted, accepted, Wanting, wanting, inspected}
-use Rattle.history.specs.Run.{Call, read, write, tick, inspect, Step, Event, ofAccess, ofNoted, bare, step}
-use Rattle.history.specs.Tally as tally
-use Rattle.engine.specs.Tables.{Inverse}
-use Rattle.history.specs.Demand3.{Bounded, AccessAnswersPlace}
+use Rattle.engine.proofs.Rungs.{passes, ladder-all}
+use Rattle.engine.proofs.Facts.{steady-passes, tick-passes, tick-all, inspect-all, row-all, late-all, row-passes, row-holds, slot-holds, Accepted, accepted, Wanting, wanting}
 use Rattle.engine.proofs.Window.{gone-none}
-use Rattle.history.proofs.Openings.{here, home-bound, home-new, slot-bound, slot-new}
-use Rattle.engine.proofs.Pointers.{Sound, marks-none, place-in}
-use Rattle.history.proofs.Invariant.{Inv, estimate, gone}
+use Rattle.engine.proofs.Pointers.{Sound, place-in}
 use Rattle.engine.proofs.Moves.{destination-in}
 use Rattle.engine.proofs.Answers.{number-is, place-is}
-use Rattle.history.proofs.Access.{inv-access, never-wanting}
+use Rattle.history.specs.Tally as tally
+use Rattle.history.specs.Run.{Call, read, write, tick, inspect, Step, ofAccess, step, requestOf, reportOf}
+use Rattle.history.specs.Demand3.{Bounded, AnswersPlace}
+use Rattle.history.proofs.Openings.{here, home-bound, home-new, slot-bound, slot-new}
+use Rattle.history.proofs.Invariant.{Inv}
+use Rattle.history.proofs.Access.{tallyAfter, inv-access, never-wanting}
 
 -- ---- a new epoch: tables as they stand, a tracker as set up, nothing gone by
 
@@ -68,8 +62,8 @@ inv-new S σ τ ranges limit sound head-in places =
 
 -- the number that the ladder gives for a call
 abbrev pub ladder : Settings → State → Call → ℕ
-ladder S σ (read r buffer) = accessNumber S σ r (readSpan S (length buffer))
-ladder S σ (write r column bytes) = accessNumber S σ r (writeSpan S column (length bytes))
+ladder S σ (read r buffer) = accessNumber S σ r (readOff S (length buffer))
+ladder S σ (write r column bytes) = accessNumber S σ r (writeOff S column (length bytes))
 ladder S σ tick = tickNumber S σ
 ladder S σ (inspect r) = inspectNumber S σ r
 
@@ -100,49 +94,47 @@ module _ (S : Settings) (σ : State) (τ₀ τ : tally.Tally) (I : Inv S σ τ�
 
   abbrev pub Carried : Call → Step → Type 0
   Carried c s =
-      ((tally.endsEpoch (record { call = c; answer = s .answer }) ≡ true)
-      × Inv S σ τ₀ (tally.feed S τ (record { call = c; answer = s .answer }))
-      × Inv S (s .state) (tally.feed S τ (record { call = c; answer = s .answer })) (tally.feed S τ (record { call = c; answer = s .answer })))
-      ⊎ ((tally.endsEpoch (record { call = c; answer = s .answer }) ≡ false)
-      × Inv S (s .state) τ₀ (tally.feed S τ (record { call = c; answer = s .answer })))
+      let told : tally.Report = reportOf (record { call = c; answer = s .answer }) in
+      ((tally.endsEpoch told ≡ true) × Inv S σ τ₀ (tally.feed S τ told) × Inv S (s .state) (tally.feed S τ told) (tally.feed S τ told))
+      ⊎ ((tally.endsEpoch told ≡ false) × Inv S (s .state) τ₀ (tally.feed S τ told))
 
   -- an accepted access, whose store after step 3 has its length
-  inv-accepted : (r : ℕ) (span : Bool) (store : List ℕ) → accessNumber S σ r span ≡ 0 → length store ≡ (S .n + S .q) * S .w
-      → Inv S (accessed S σ r store) τ₀ (tally.accessed S τ r (move S σ r))
-  inv-accepted r span store z long =
-      let A : Accepted S σ r span = accepted S σ r span z in
+  inv-accepted : (r : ℕ) (off : Bool) (store : List ℕ) → accessNumber S σ r off ≡ 0 → length store ≡ (S .n + S .q) * S .w
+      → Inv S (stateAfter S σ r store) τ₀ (tallyAfter S τ r (move S σ r))
+  inv-accepted r off store z long =
+      let A : Accepted S σ r off = accepted S σ r off z in
       inv-access S σ τ₀ τ I r (A .reached .row-in) (A .reached .more) (A .room) store long
 
   pub store-long : length (σ .store) ≡ (S .n + S .q) * S .w
   store-long = I .sound .lengths .store
 
-  pub written-long : (r column : ℕ) (bytes : List ℕ) → accessNumber S σ r (writeSpan S column (length bytes)) ≡ 0
+  pub written-long : (r column : ℕ) (bytes : List ℕ) → accessNumber S σ r (writeOff S column (length bytes)) ≡ 0
       → length (written (S .w) (σ .store) (place S σ r) column bytes) ≡ (S .n + S .q) * S .w
   written-long r column bytes z =
-      let A = accepted S σ r (writeSpan S column (length bytes)) z in
-      length-written (S .w) (S .n + S .q) (σ .store) (place S σ r) column bytes store-long (place-in S σ (I .sound) r (A .reached .row-in)) (leb-true (column + length bytes) (S .w) (A .reached .spans)) ∙ store-long
+      let A = accepted S σ r (writeOff S column (length bytes)) z in
+      length-written (S .w) (S .n + S .q) (σ .store) (place S σ r) column bytes store-long (place-in S σ (I .sound) r (A .reached .row-in)) (ltb-false (S .w) (column + length bytes) (A .reached .span-in)) ∙ store-long
 
   -- a read or a write of row r that answers number x
-  carried-access : (c : Call) (r x : ℕ) (store filled buffer : List ℕ) → tally.isTick c ≡ false → ((m : Move) → tally.accepted S τ c m ≡ tally.accessed S τ r m)
-      → (x ≡ 0 → Inv S (accessed S σ r store) τ₀ (tally.accessed S τ r (move S σ r))) → Carried c (ofAccess (calls.answered S σ r x store filled buffer))
-  unfolding calls.answered
-  carried-access c r x store filled buffer other counted inv =
+  carried-access : (c : Call) (r x : ℕ) (store filled buffer : List ℕ) → requestOf c ≡ tally.access r
+      → (x ≡ 0 → Inv S (stateAfter S σ r store) τ₀ (tallyAfter S τ r (move S σ r))) → Carried c (ofAccess (calls.accessed S σ r x store filled buffer))
+  unfolding calls.accessed
+  carried-access c r x store filled buffer is-access inv =
       elim (split (eqb x 0)) [
-        | inl e ↦ rw (e, other, counted (move S σ r)) (inr (refl, inv (eqb-true x 0 e)))
+        | inl e ↦ rw (e, is-access) (inr (refl, inv (eqb-true x 0 e)))
         | inr e ↦ rw (e, e) (inr (refl, I))
       ]
 
   pub carried : (c : Call) → Carried c (step S σ c)
   unfolding step calls.read calls.write calls.tick calls.noted
   carried (read r buffer) =
-      let span : Bool = readSpan S (length buffer) in
-      carried-access (read r buffer) r (accessNumber S σ r span) (σ .store) (rowBytes (S .w) (σ .store) (place S σ r)) buffer refl (λ m. refl)
-      (λ z. inv-accepted r span (σ .store) z store-long)
+      let off : Bool = readOff S (length buffer) in
+      carried-access (read r buffer) r (accessNumber S σ r off) (σ .store) (rowBytes (S .w) (σ .store) (place S σ r)) buffer refl
+      (λ z. inv-accepted r off (σ .store) z store-long)
   carried (write r column bytes) =
-      let span : Bool = writeSpan S column (length bytes) in
+      let off : Bool = writeOff S column (length bytes) in
       let store : List ℕ = written (S .w) (σ .store) (place S σ r) column bytes in
-      carried-access (write r column bytes) r (accessNumber S σ r span) store [] [] refl (λ m. refl)
-      (λ z. inv-accepted r span store z (written-long r column bytes z))
+      carried-access (write r column bytes) r (accessNumber S σ r off) store [] [] refl
+      (λ z. inv-accepted r off store z (written-long r column bytes z))
   carried tick =
       elim (split (eqb (tickNumber S σ) 0)) [
         | inl e ↦ rw e (inl (refl, I, inv-new S σ τ (I .ranges) (I .limit) (sound-ticked (I .sound)) (I .head-in) (I .places)))
@@ -167,31 +159,32 @@ module _ (S : Settings) (σ : State) (τ₀ τ : tally.Tally) (I : Inv S σ τ�
   -- ---- what is answered
 
   -- with slots enough it is not 9
-  access-not-9 : 2 * (S .l / S .a) ≤ S .q → (r : ℕ) (span : Bool) → accessNumber S σ r span ≡ 9 → ⊥
-  access-not-9 enough r span e =
-      let W : Wanting S σ r span = wanting S σ r span e in
+  access-not-9 : 2 * (S .l / S .a) ≤ S .q → (r : ℕ) (off : Bool) → accessNumber S σ r off ≡ 9 → ⊥
+  access-not-9 enough r off e =
+      let W : Wanting S σ r off = wanting S σ r off e in
       never-wanting S σ τ₀ τ I r (W .reached .row-in) (W .reached .more) enough (W .moving) (W .full)
 
   ladder-not-9 : 2 * (S .l / S .a) ≤ S .q → (c : Call) → ladder S σ c ≡ 9 → ⊥
-  ladder-not-9 enough (read r buffer) e = access-not-9 enough r (readSpan S (length buffer)) e
-  ladder-not-9 enough (write r column bytes) e = access-not-9 enough r (writeSpan S column (length bytes)) e
-  ladder-not-9 enough tick e = omega (arith, tick-most S σ)
-  ladder-not-9 enough (inspect r) e = omega (arith, inspect-most S σ r)
+  ladder-not-9 enough (read r buffer) e = access-not-9 enough r (readOff S (length buffer)) e
+  ladder-not-9 enough (write r column bytes) e = access-not-9 enough r (writeOff S column (length bytes)) e
+  ladder-not-9 enough tick e = tick-all (λ x. x ≢ 9) (λ z. omega arith) (λ z. omega arith) (λ z. omega arith) (λ z. omega arith) (λ z. omega arith) S σ e
+  ladder-not-9 enough (inspect r) e =
+      inspect-all (λ x. x ≢ 9) (λ z. omega arith) (λ z. omega arith) (λ z. omega arith) (λ z. omega arith) (λ z. omega arith) (λ z. omega arith) (λ z. omega arith) S σ r e
 
   pub not-9 : 2 * (S .l / S .a) ≤ S .q → (c : Call) → (step S σ c) .answer .number ≡ 9 → ⊥
   not-9 enough c e = ladder-not-9 enough c (sym (step-number S σ c) ∙ e)
 
   -- an accepted access answers the tally's place
-  tallied-place : (r x : ℕ) (span : Bool) (store filled buffer : List ℕ) → x ≡ accessNumber S σ r span → numberOf ((calls.answered S σ r x store filled buffer) .answer) ≡ 0
-      → placeOf ((calls.answered S σ r x store filled buffer) .answer) ≡ τ .place r
-  tallied-place r x span store filled buffer same z =
+  tallied-place : (r x : ℕ) (off : Bool) (store filled buffer : List ℕ) → x ≡ accessNumber S σ r off → numberOf ((calls.accessed S σ r x store filled buffer) .answer) ≡ 0
+      → placeOf ((calls.accessed S σ r x store filled buffer) .answer) ≡ τ .place r
+  tallied-place r x off store filled buffer same z =
       let zero : x ≡ 0 = sym (number-is S σ r x store filled buffer) ∙ z in
-      place-is S σ r x store filled buffer zero ∙ sym (I .places r (accepted S σ r span (sym same ∙ zero) .reached .row-in))
+      place-is S σ r x store filled buffer zero ∙ sym (I .places r (accepted S σ r off (sym same ∙ zero) .reached .row-in))
 
-  pub answers-place : (c : Call) → AccessAnswersPlace τ (record { call = c; answer = (step S σ c) .answer }) c
+  pub answers-place : (c : Call) → AnswersPlace τ (record { call = c; answer = (step S σ c) .answer }) (requestOf c)
   unfolding step calls.read calls.write
-  answers-place (read r buffer) = λ z. tallied-place r _ (readSpan S (length buffer)) _ _ _ refl z
-  answers-place (write r column bytes) = λ z. tallied-place r _ (writeSpan S column (length bytes)) _ _ _ refl z
+  answers-place (read r buffer) = λ z. tallied-place r _ (readOff S (length buffer)) _ _ _ refl z
+  answers-place (write r column bytes) = λ z. tallied-place r _ (writeOff S column (length bytes)) _ _ _ refl z
   answers-place tick = tt
   answers-place (inspect r) = tt
 
@@ -201,7 +194,7 @@ module _ (S : Settings) (σ : State) (τ₀ τ : tally.Tally) (I : Inv S σ τ�
   tick-0 =
       tick-passes S σ
       (record { ranges = I .ranges; limit = I .limit; lengths = lengths-hold S (lengthsOf σ) (I .sound .lengths) })
-      (steady-holds S σ
+      (steady-passes S σ
       (record {
         head-in = I .head-in;
         passed-in = I .passed-in;
@@ -211,26 +204,33 @@ module _ (S : Settings) (σ : State) (τ₀ τ : tally.Tally) (I : Inv S σ τ�
       })
       (count-within (I .counting)))
 
+  -- a row's pointers hold
+  row-sure : (r : ℕ) → r < S .n → pointsBack (forwardOf σ r) (S .q) (σ .reverse) r ≡ true
+  row-sure r row-in = row-holds S σ r (I .sound .inverse .forward r row-in)
+
+  -- inspect is refused for no row
+  pub inspect-0 : (r : ℕ) → r < S .n → inspectNumber S σ r ≡ 0
+  unfolding inspectNumber
+  inspect-0 r row-in = passes tick-0 (row-passes S (σ .forward) (σ .reverse) r false row-in refl (row-sure r row-in))
+
   -- P holds of 0, 5, 6, 8 and 9
   module _ (P : ℕ → Type 0) (p0 : P 0) (p5 : P 5) (p6 : P 6) (p8 : P 8) (p9 : P 9) where
-    seen-access : (r : ℕ) (span : Bool) → P (accessNumber S σ r span)
-    unfolding accessNumber
-    seen-access r span =
-        ladder-all P _ _ (rw tick-0 p0) (λ e.
-        ladder-all P _ _ (rung-all P _ 5 p0 p5) (λ row.
-        let row-in : r < S .n = ltb-true r (S .n) (held _ _ row) in
-        ladder-all P _ _ (rung-all P _ 6 p0 p6) (λ f.
-        ladder-all P _ _ (rw (holds 7 (row-holds S σ r (I .sound .inverse .forward r row-in))) p0) (λ g.
-        ladder-all P _ _ (rung-all P _ 8 p0 p8) (λ h.
-        ladder-all P _ _ (rung-all P _ 9 p0 p9) (λ k.
-        rw (holds 7 (unless-holds (moves S σ r) (destinationHolds S σ (destination S σ r)) (λ m. slot-holds S σ (destination S σ r) (I .sound .inverse .reverse (destination S σ r) (destination-in S σ r (I .head-in)))))) p0))))))
+    usual-row : (r : ℕ) (off : Bool) → P (rowNumber S (σ .forward) (σ .reverse) r off)
+    usual-row r off =
+        row-all P p0 p5 S (σ .forward) (σ .reverse) r off (λ e. p6) (λ row-in e. absurd (true≢false (sym (row-sure r row-in) ∙ e)))
 
-    pub seen : (c : Call) → P (ladder S σ c)
-    unfolding inspectNumber
-    seen (read r buffer) = seen-access r (readSpan S (length buffer))
-    seen (write r column bytes) = seen-access r (writeSpan S column (length bytes))
-    seen tick = rw tick-0 p0
-    seen (inspect r) =
+    usual-access : (r : ℕ) (off : Bool) → P (accessNumber S σ r off)
+    unfolding accessNumber
+    usual-access r off =
         ladder-all P _ _ (rw tick-0 p0) (λ e.
-        ladder-all P _ _ (rung-all P _ 5 p0 p5) (λ row.
-        rw (holds 7 (row-holds S σ r (I .sound .inverse .forward r (ltb-true r (S .n) (held _ _ row))))) p0))
+        ladder-all P _ _ (usual-row r off) (λ f.
+        late-all P p0 p8 p9 S (σ .control) (σ .forward) (σ .reverse) (forwardOf σ r) (moves S σ r) (λ m k.
+        absurd (true≢false
+        (sym (slot-holds S σ (destination S σ r) (I .sound .inverse .reverse (destination S σ r) (destination-in S σ r (I .head-in)))) ∙ k)))))
+
+    pub usual : (c : Call) → P (ladder S σ c)
+    unfolding inspectNumber
+    usual (read r buffer) = usual-access r (readOff S (length buffer))
+    usual (write r column bytes) = usual-access r (writeOff S column (length bytes))
+    usual tick = rw tick-0 p0
+    usual (inspect r) = ladder-all P _ _ (rw tick-0 p0) (λ e. usual-row r false)

@@ -1,10 +1,9 @@
--- Every list of calls after set-up: demand 3, and demand 2's tables and numbers. Assumes nothing.
-use Prim.Native.Nat.{ℕ, _+_, _*_, _/_, _<_, _≤_}
+-- Every list of events after set-up: demand 3, and demand 2's tables and numbers. Assumes nothing.
+use Prim.Native.Nat.{ℕ, _<_}
 use native.Mathlib.Omega.{arith}
-use mathlib.Core.Path.{_≡_, refl, sym, _∙_}
-use mathlib.Core.Logic.{_⊎_, inl, inr}
-use mathlib.Core.Bool.{true}
-use mathlib.Core.List.{List, [], _∷_}
+use mathlib.Core.Path.{_≡_, refl}
+use mathlib.Core.Logic.{inl, inr}
+use mathlib.Core.List.{List, [], _∷_, map}
 use lib.ListN.{getD-replicate, length-replicate}
 use borrow.Author.Tests.{eq-eqb}
 use Rattle.geometry.specs.declared.Settings.{Settings}
@@ -14,12 +13,13 @@ use Rattle.engine.specs.State.{State, lengthsOf, forwardOf}
 use Rattle.engine.specs.Ladder.{setUpNumber}
 use Rattle.engine.specs.Calls as calls
 use Rattle.engine.proofs.Facts.{Fit, fit}
-use Rattle.history.specs.Run.{Call, Event, step, run, events, Each}
+use Rattle.history.specs.Run.{Call, Event, step, events, reportOf, Each, OneOf}
 use Rattle.history.specs.Tally as tally
-use Rattle.history.specs.Demand2.{TablesInverse, Seen, OnlySeen}
-use Rattle.history.specs.Demand3.{Bounded, NoSlotWanting, PlacesAnswered, Demand3}
+use Rattle.history.specs.Demand2.{TablesInverse, Usual, OnlyUsual}
+use Rattle.history.specs.Demand3.{Bounded, NoSlotWanting, PlacesAnswered, Kept, Demand3}
 use Rattle.history.proofs.Invariant.{Inv}
-use Rattle.history.proofs.Calls.{inv-new, carried, bounded, step-number, not-9, answers-place, seen}
+use Rattle.history.proofs.Calls.{inv-new, carried, bounded, step-number, not-9, answers-place, usual}
+use Rattle.history.proofs.Chain.{Chain, end, call, idle, chain-of, Idle, idle-feed, idle-runs, idle-not-9, idle-place}
 
 -- ---- set-up
 
@@ -58,63 +58,74 @@ inv-set-up S σ z = rw (eq-eqb (setUpNumber S σ) 0 z) (inv-cleared S σ z)
 -- ---- the list
 
 module _ (S : Settings) where
-  -- the invariant after a list of calls
-  pub inv-run : (cs : List Call) (σ : State) (τ₀ τ : tally.Tally) → Inv S σ τ₀ τ → (τ₁ : tally.Tally) × (τ₂ : tally.Tally) × Inv S (run S σ cs) τ₁ τ₂
-  inv-run [] σ τ₀ τ I = (τ₀, τ, I)
-  inv-run (c ∷ cs) σ τ₀ τ I =
-      elim (carried S σ τ₀ τ I c) [
-        | inl v ↦ inv-run cs ((step S σ c) .state) _ _ (v .2)
-        | inr v ↦ inv-run cs ((step S σ c) .state) τ₀ _ (v .1)
-      ]
+  -- the invariant after a chain
+  pub inv-chain : {σ σ′ : State} {es : List Event} → Chain S σ es σ′ → (τ₀ τ : tally.Tally) → Inv S σ τ₀ τ
+      → (τ₁ : tally.Tally) × (τ₂ : tally.Tally) × Inv S σ′ τ₁ τ₂
+  inv-chain end τ₀ τ I = (τ₀, τ, I)
+  inv-chain (call {σ} c rest) τ₀ τ I =
+      elim (carried S σ τ₀ τ I c) [ inl v ↦ inv-chain rest _ _ (v .2) | inr v ↦ inv-chain rest τ₀ _ (v .1) ]
+  inv-chain (idle z rest) τ₀ τ I = inv-chain rest τ₀ τ I
 
-  -- what holds of every answer given under the invariant holds of each event
-  each : (P : Event → Type 0) → ((σ : State) (τ₀ τ : tally.Tally) → Inv S σ τ₀ τ → (c : Call) → P (record { call = c; answer = (step S σ c) .answer }))
-      → (cs : List Call) (σ : State) (τ₀ τ : tally.Tally) → Inv S σ τ₀ τ → Each P (events S σ cs)
-  each P h [] σ τ₀ τ I = tt
-  each P h (c ∷ cs) σ τ₀ τ I = (
+  -- what holds of an idle event, and of every answer given under the invariant, holds of each event
+  each : (P : Event → Type 0) → ((e : Event) → Idle e → P e)
+      → ((σ : State) (τ₀ τ : tally.Tally) → Inv S σ τ₀ τ → (c : Call) → P (record { call = c; answer = (step S σ c) .answer }))
+      → {σ σ′ : State} {es : List Event} → Chain S σ es σ′ → (τ₀ τ : tally.Tally) → Inv S σ τ₀ τ → Each P es
+  each P k h end τ₀ τ I = tt
+  each P k h (call {σ} c rest) τ₀ τ I = (
     h σ τ₀ τ I c,
-    elim (carried S σ τ₀ τ I c) [
-      | inl v ↦ each P h cs ((step S σ c) .state) _ _ (v .2)
-      | inr v ↦ each P h cs ((step S σ c) .state) τ₀ _ (v .1)
-    ],
+    elim (carried S σ τ₀ τ I c) [ inl v ↦ each P k h rest _ _ (v .2) | inr v ↦ each P k h rest τ₀ _ (v .1) ],
   )
+  each P k h (idle {e = e} z rest) τ₀ τ I = (k e z, each P k h rest τ₀ τ I)
 
-  epochs-bounded : (cs : List Call) (σ : State) (τ₀ τ : tally.Tally) → Inv S σ τ₀ τ → Each (Bounded S) (tally.epochs S τ₀ τ (events S σ cs))
-  epochs-bounded [] σ τ₀ τ I = (bounded S σ τ₀ τ I, tt)
-  epochs-bounded (c ∷ cs) σ τ₀ τ I =
+  epochs-bounded : {σ σ′ : State} {es : List Event} → Chain S σ es σ′ → (τ₀ τ : tally.Tally) → Inv S σ τ₀ τ
+      → Each (Bounded S) (tally.epochs S τ₀ τ (map reportOf es))
+  epochs-bounded (end {σ}) τ₀ τ I = (bounded S σ τ₀ τ I, tt)
+  epochs-bounded (call {σ} c rest) τ₀ τ I =
       elim (carried S σ τ₀ τ I c) [
-        | inl v ↦ rw (v .0) (bounded S σ τ₀ _ (v .1), epochs-bounded cs ((step S σ c) .state) _ _ (v .2))
-        | inr v ↦ rw (v .0) (epochs-bounded cs ((step S σ c) .state) τ₀ _ (v .1))
+        | inl v ↦ rw (v .0) (bounded S σ τ₀ _ (v .1), epochs-bounded rest _ _ (v .2))
+        | inr v ↦ rw (v .0) (epochs-bounded rest τ₀ _ (v .1))
       ]
+  epochs-bounded (idle z rest) τ₀ τ I = rw (idle-runs z, idle-feed S τ z) (epochs-bounded rest τ₀ τ I)
 
-  places-answered : (cs : List Call) (σ : State) (τ₀ τ : tally.Tally) → Inv S σ τ₀ τ → PlacesAnswered S τ (events S σ cs)
-  places-answered [] σ τ₀ τ I = tt
-  places-answered (c ∷ cs) σ τ₀ τ I = (
+  places-answered : {σ σ′ : State} {es : List Event} → Chain S σ es σ′ → (τ₀ τ : tally.Tally) → Inv S σ τ₀ τ → PlacesAnswered S τ es
+  places-answered end τ₀ τ I = tt
+  places-answered (call {σ} c rest) τ₀ τ I = (
     answers-place S σ τ₀ τ I c,
-    elim (carried S σ τ₀ τ I c) [
-      | inl v ↦ places-answered cs ((step S σ c) .state) _ _ (v .2)
-      | inr v ↦ places-answered cs ((step S σ c) .state) τ₀ _ (v .1)
-    ],
+    elim (carried S σ τ₀ τ I c) [ inl v ↦ places-answered rest _ _ (v .2) | inr v ↦ places-answered rest τ₀ _ (v .1) ],
   )
+  places-answered (idle z rest) τ₀ τ I = (idle-place τ z, rw (idle-feed S τ z) (places-answered rest τ₀ τ I))
 
 -- ---- the theorems
 
-pub demand-3 : Demand3
-demand-3 S σ cs z =
+-- demand 3, of every chain from set-up
+pub kept : (S : Settings) (σ : State) → (calls.setUp S σ) .number ≡ 0 → {σ′ : State} {es : List Event} → Chain S ((calls.setUp S σ) .state) es σ′ → Kept S es
+kept S σ z chain =
     let I = inv-set-up S σ z in
     record {
-      bounded = epochs-bounded S cs ((calls.setUp S σ) .state) tally.start tally.start I;
-      enough = λ q. each S NoSlotWanting (λ σ τ₀ τ I c. not-9 S σ τ₀ τ I q c) cs ((calls.setUp S σ) .state) tally.start tally.start I;
-      places = places-answered S cs ((calls.setUp S σ) .state) tally.start tally.start I;
+      bounded = epochs-bounded S chain tally.start tally.start I;
+      enough = λ q. each S NoSlotWanting (λ e k. idle-not-9 k) (λ σ τ₀ τ I c. not-9 S σ τ₀ τ I q c) chain tally.start tally.start I;
+      places = places-answered S chain tally.start tally.start I;
     }
 
-pub tables-inverse : TablesInverse
-tables-inverse S σ cs z = inv-run S cs ((calls.setUp S σ) .state) tally.start tally.start (inv-set-up S σ z) .2 .sound .inverse
+pub demand-3 : Demand3
+demand-3 S σ cs z = kept S σ z (chain-of S cs ((calls.setUp S σ) .state))
 
-pub only-seen : OnlySeen
-only-seen S σ cs z =
-    each S Seen
-    (λ σ τ₀ τ I c. rw (step-number S σ c)
-    (seen S σ τ₀ τ I (λ x. (x ≡ 0) ⊎ ((x ≡ 5) ⊎ ((x ≡ 6) ⊎ ((x ≡ 8) ⊎ (x ≡ 9)))))
-    (inl refl) (inr (inl refl)) (inr (inr (inl refl))) (inr (inr (inr (inl refl)))) (inr (inr (inr (inr refl)))) c))
-    cs ((calls.setUp S σ) .state) tally.start tally.start (inv-set-up S σ z)
+pub tables-inverse : TablesInverse
+tables-inverse S σ cs z = inv-chain S (chain-of S cs ((calls.setUp S σ) .state)) tally.start tally.start (inv-set-up S σ z) .2 .sound .inverse
+
+-- the number of a call under the invariant
+pub usual-number : (S : Settings) (σ : State) (τ₀ τ : tally.Tally) → Inv S σ τ₀ τ → (c : Call) → Usual (record { call = c; answer = (step S σ c) .answer })
+usual-number S σ τ₀ τ I c =
+    rw (step-number S σ c)
+    (usual S σ τ₀ τ I (OneOf (0 ∷ 5 ∷ 6 ∷ 8 ∷ 9 ∷ []))
+    (inl refl) (inr (inl refl)) (inr (inr (inl refl))) (inr (inr (inr (inl refl)))) (inr (inr (inr (inr (inl refl))))) c)
+
+only-usual-from : (S : Settings) (cs : List Call) (σ : State) (τ₀ τ : tally.Tally) → Inv S σ τ₀ τ → Each Usual (events S σ cs)
+only-usual-from S [] σ τ₀ τ I = tt
+only-usual-from S (c ∷ cs) σ τ₀ τ I = (
+  usual-number S σ τ₀ τ I c,
+  elim (carried S σ τ₀ τ I c) [ inl v ↦ only-usual-from S cs _ _ _ (v .2) | inr v ↦ only-usual-from S cs _ τ₀ _ (v .1) ],
+)
+
+pub only-usual : OnlyUsual
+only-usual S σ cs z = only-usual-from S cs ((calls.setUp S σ) .state) tally.start tally.start (inv-set-up S σ z)

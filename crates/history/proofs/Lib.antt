@@ -5,7 +5,8 @@ pub mod Rows
 pub mod Access
 pub mod Bytes
 pub mod Calls
+pub mod Chain
 pub mod History
 pub mod AfterTick
 pub mod Memory
-pub mod Served
+pub mod Refusals

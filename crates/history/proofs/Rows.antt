@@ -1,24 +1,21 @@
 -- One access carries on what is known of every home row and of every slot. Assumes nothing.
 use Prim.Native.Nat.{ℕ, suc, _+_, _*_, _<_}
 use native.Mathlib.Omega.{arith}
-use mathlib.Core.Path.{_≡_, refl, sym, ap, _∙_, subst}
+use mathlib.Core.Path.{_≡_, sym, ap, _∙_, subst}
 use mathlib.Core.Logic.{_⊎_, inl, inr, _≢_}
-use mathlib.Core.Bool.{Bool, true, false, false≢true}
-use mathlib.Core.List.{List}
+use mathlib.Core.Bool.{true, false}
 use lib.Dec.{eqb}
-use lib.ListN.{getD}
 use borrow.Author.Tests.{ne-eqb, eq-eqb, eqb-true, eqb-false}
 use Rattle.geometry.specs.declared.Settings.{Settings}
 use Rattle.geometry.specs.Entry.{empty}
 use Rattle.geometry.proofs.Cases.{eq?}
 use Rattle.tracker.proofs.View.{Grew}
-use Rattle.engine.specs.declared.Move.the-variants.{Stayed}
 use Rattle.engine.specs.State.{State, forwardOf, reverseOf}
 use Rattle.engine.specs.Steps.{place}
-use Rattle.history.specs.Tally.{Tally, hit, accessed}
+use Rattle.history.specs.Tally.{Tally, hit, afterStay}
 use Rattle.engine.proofs.Window.{Slide, slide-keeps}
 use Rattle.history.proofs.Openings.{Home, Slot, home-rests, home-opened, home-leaves, home-returns, home-skipped, slot-rests, slot-opened, slot-filled, slot-leaves}
-use Rattle.engine.proofs.Pointers.{Sound, Relinked, marks-none, place-is}
+use Rattle.engine.proofs.Pointers.{Relinked, marks-none, place-is}
 use Rattle.engine.proofs.Moves.{own}
 use Rattle.history.proofs.Tallied.{Tallied, hit-home, hit-slot, hit-here, hit-away, hit-own}
 use Rattle.history.proofs.Invariant.{Inv, estimate, gone, HomeKept, SlotKept}
@@ -62,7 +59,7 @@ module _ (S : Settings) (σ : State) (τ₀ τ : Tally) (I : Inv S σ τ₀ τ) 
     multiple x m e b = rw e (rests m b)
 
     pub home-stays : (x : ℕ) → x < S .n
-        → Home (S .a) ((accessed S τ r Stayed) .openings x) (τ₀ .openings x) (estimate σ′ x) (eqb (forwardOf σ x) empty) (gone S σ (forwardOf σ x))
+        → Home (S .a) ((afterStay S τ r) .openings x) (τ₀ .openings x) (estimate σ′ x) (eqb (forwardOf σ x) empty) (gone S σ (forwardOf σ x))
     home-stays x b =
         elim (eq? x r) [
           | inr n ↦ home-rests (gone S σ (forwardOf σ x)) (I .homes x b) (λ h g. g) (omega (arith, hit-home S σ (I .sound) τ r row-in (I .places r row-in) x b n)) (grew-home x b n)
@@ -78,7 +75,7 @@ module _ (S : Settings) (σ : State) (τ₀ τ : Tally) (I : Inv S σ τ₀ τ) 
         ]
 
     pub slot-stays : (s : ℕ) → s < S .q
-        → Slot (S .a) ((accessed S τ r Stayed) .openings (S .n + s)) (τ₀ .openings (S .n + s)) (estimate σ′ (S .n + s)) (gone S σ s) (eqb (reverseOf σ s) empty)
+        → Slot (S .a) ((afterStay S τ r) .openings (S .n + s)) (τ₀ .openings (S .n + s)) (estimate σ′ (S .n + s)) (gone S σ s) (eqb (reverseOf σ s) empty)
     slot-stays s b =
         elim (eq? s (forwardOf σ r)) [
           | inr n ↦ slot-rests pos (I .slots s b) (omega (arith, hit-slot S σ (I .sound) τ r row-in (I .places r row-in) s n)) (grew-slot s b n)

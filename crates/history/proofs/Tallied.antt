@@ -7,12 +7,10 @@ use mathlib.Core.Bool.{true, false}
 use lib.Dec.{eqb}
 use borrow.Author.Tests.{ne-eqb, eq-eqb}
 use Rattle.geometry.specs.declared.Settings.{Settings}
-use Rattle.geometry.specs.Numbering.{visible, slot}
 use Rattle.geometry.specs.Entry.{empty}
-use Rattle.engine.specs.declared.Move.the-variants.{ToSlot, OverSlot}
 use Rattle.engine.specs.State.{State, forwardOf, reverseOf}
 use Rattle.engine.specs.Steps.{place}
-use Rattle.history.specs.Tally.{Tally, hit, accessed}
+use Rattle.history.specs.Tally.{Tally, hit, afterMove, afterMoveOver, afterAccess}
 use Rattle.history.proofs.Openings.{hit-same, hit-other}
 use Rattle.engine.proofs.Pointers.{Sound, marks-none, place-is}
 
@@ -67,9 +65,17 @@ module _ (S : Settings) (σ : State) (sound : Sound S σ) (τ : Tally) (r : ℕ)
     target-self : hit (S .n + d) (S .n + d) ≡ 1
     target-self = hit-same (S .n + d) (S .n + d) refl
 
-    pub tallied-to : reverseOf σ d ≡ empty → ((x : ℕ) → x < S .n → forwardOf σ x ≢ d) → Tallied S σ τ (accessed S τ r (ToSlot (slot d))) r d
+    -- a slot is answered, and no row or a row
+    to-slot : afterAccess S τ r d empty ≡ afterMove S τ r d
+    to-slot = rw (ne-eqb d empty (marks-none S (sound .ranges) d (omega arith)))
+
+    over-slot : (v : ℕ) → v < S .n → afterAccess S τ r d v ≡ afterMoveOver S τ r d v
+    over-slot v v-in = rw (ne-eqb d empty (marks-none S (sound .ranges) d (omega arith)), ne-eqb v empty (marks-none S (sound .ranges) v (omega arith)))
+
+    pub tallied-to : reverseOf σ d ≡ empty → ((x : ℕ) → x < S .n → forwardOf σ x ≢ d) → Tallied S σ τ (afterAccess S τ r d empty) r d
     tallied-to vacant none =
-        record {
+        rw to-slot
+        (record {
           quarantine = refl;
           mover = rw (eq-eqb r r refl);
           evicted = λ x b n e. absurd (none x b e);
@@ -81,13 +87,14 @@ module _ (S : Settings) (σ : State) (sound : Sound S σ) (τ : Tally) (r : ℕ)
           slot-filled = inl (eq-eqb (reverseOf σ d) empty vacant, omega (arith, hit-slot d free, target-self));
           slot-freed = λ b. omega (arith, hit-own b, target-slot (forwardOf σ r) (λ e. free (sym e)));
           slot-others = λ s b n m. omega (arith, hit-slot s m, target-slot s n);
-        }
+        })
 
-    pub tallied-over : (v : ℕ) → reverseOf σ d ≡ v → v < S .n → forwardOf σ v ≡ d → ((x : ℕ) → x < S .n → forwardOf σ x ≡ d → x ≡ v) → Tallied S σ τ (accessed S τ r (OverSlot (slot d) (visible v))) r d
+    pub tallied-over : (v : ℕ) → reverseOf σ d ≡ v → v < S .n → forwardOf σ v ≡ d → ((x : ℕ) → x < S .n → forwardOf σ x ≡ d → x ≡ v) → Tallied S σ τ (afterAccess S τ r d v) r d
     tallied-over v held v-in back only =
         let differs : r ≢ v = λ e. free (sym (ap (forwardOf σ) e ∙ back)) in
         let slot-hit : (s : ℕ) → hit v (S .n + s) ≡ 0 = λ s. hit-other v (S .n + s) (λ e. omega arith) in
-        record {
+        rw (over-slot v v-in)
+        (record {
           quarantine = refl;
           mover = rw (ne-eqb r v differs, eq-eqb r r refl);
           evicted = λ x b n e. rw (eq-eqb x v (only x b e)) (sym (only x b e));
@@ -99,4 +106,4 @@ module _ (S : Settings) (σ : State) (sound : Sound S σ) (τ : Tally) (r : ℕ)
           slot-filled = inr (ne-eqb (reverseOf σ d) empty (λ e. marks-none S (sound .ranges) v (omega arith) (sym held ∙ e)), omega (arith, hit-slot d free, target-self, slot-hit d));
           slot-freed = λ b. omega (arith, hit-own b, target-slot (forwardOf σ r) (λ e. free (sym e)), slot-hit (forwardOf σ r));
           slot-others = λ s b n m. omega (arith, hit-slot s m, target-slot s n, slot-hit s);
-        }
+        })

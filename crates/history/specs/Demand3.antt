@@ -1,14 +1,16 @@
--- Demand 3, as one claim about a list of calls as a whole. Its proof is `demand-3` of proofs/History.antt.
+-- Demand 3, as one claim about a list of calls as a whole. Its proof is `demand-3` of proofs/History.antt; the same of
+-- what a C caller sees is `Demand3Served` of crate `served`.
 -- Assumes nothing.
 use Prim.Native.Nat.{ℕ, _+_, _*_, _/_, _≤_, _<_}
 use mathlib.Core.Path.{_≡_}
-use mathlib.Core.List.{List, [], _∷_}
+use mathlib.Core.List.{List, [], _∷_, map}
 use Rattle.geometry.specs.declared.Settings.{Settings}
 use Rattle.geometry.specs.Numbering.{homeRow, slotRow}
 use Rattle.engine.specs.State.{State}
 use Rattle.engine.specs.Calls.{setUp}
-use Rattle.history.specs.Run.{Call, read, write, tick, inspect, Event, events, Each}
-use Rattle.history.specs.Tally.{Tally, start, feed, Stretch, openingsIn, quarantinesIn, epochs}
+use Rattle.history.specs.Tally.{Request, access, tick, inspect, Tally, start, feed}
+use Rattle.history.specs.Tally.{Stretch, openingsIn, quarantinesIn, epochs}
+use Rattle.history.specs.Run.{Call, Event, events, requestOf, reportOf, Each}
 
 -- what holds of an epoch
 pub record Bounded (S : Settings) (e : Stretch) : Type 0 where
@@ -24,25 +26,22 @@ abbrev pub NoSlotWanting : Event → Type 0
 NoSlotWanting e = e .answer .number ≡ 9 → ⊥
 
 -- 'each accepted access answers as p the place that the tally has for its row'
-abbrev pub AnswersPlace : Tally → Event → ℕ → Type 0
-AnswersPlace τ e r = e .answer .number ≡ 0 → e .answer .place ≡ τ .place r
-
-abbrev pub AccessAnswersPlace : Tally → Event → Call → Type 0
-AccessAnswersPlace τ e (read r buffer) = AnswersPlace τ e r
-AccessAnswersPlace τ e (write r column bytes) = AnswersPlace τ e r
-AccessAnswersPlace τ e tick = Unit {0}
-AccessAnswersPlace τ e (inspect r) = Unit {0}
+abbrev pub AnswersPlace : Tally → Event → Request → Type 0
+AnswersPlace τ e (access r) = e .answer .number ≡ 0 → e .answer .place ≡ τ .place r
+AnswersPlace τ e tick = Unit {0}
+AnswersPlace τ e (inspect r) = Unit {0}
 
 abbrev pub PlacesAnswered : Settings → Tally → List Event → Type 0
 PlacesAnswered S τ [] = Unit {0}
-PlacesAnswered S τ (e ∷ es) = AccessAnswersPlace τ e (e .call) × PlacesAnswered S (feed S τ e) es
+PlacesAnswered S τ (e ∷ es) = AnswersPlace τ e (requestOf (e .call)) × PlacesAnswered S (feed S τ (reportOf e)) es
 
 -- demand 3, of what the calls after set-up answered
 pub record Kept (S : Settings) (es : List Event) : Type 0 where
-  pub bounded : Each (Bounded S) (epochs S start start es)
+  pub bounded : Each (Bounded S) (epochs S start start (map reportOf es))
   pub enough : 2 * (S .l / S .a) ≤ S .q → Each NoSlotWanting es
   pub places : PlacesAnswered S start es
 
 -- For all settings, all lent memory and all lists of calls: if set-up is accepted, then demand 3 holds of the list.
 abbrev pub Demand3 : Type 0
-Demand3 = (S : Settings) (σ : State) (cs : List Call) → (setUp S σ) .number ≡ 0 → Kept S (events S ((setUp S σ) .state) cs)
+Demand3 = (S : Settings) (σ : State) (cs : List Call) → (setUp S σ) .number ≡ 0
+    → Kept S (events S ((setUp S σ) .state) cs)

@@ -1,58 +1,68 @@
 -- A history: a list of calls after set-up, each getting the memory as the last left it.
 -- Assumes nothing.
 use Prim.Native.Nat.{ℕ}
+use mathlib.Core.Path.{_≡_}
+use mathlib.Core.Logic.{_⊎_}
 use mathlib.Core.List.{List, [], _∷_}
 use Rattle.geometry.specs.declared.Settings.{Settings}
-use Rattle.engine.specs.declared.Move.{Move}
-use Rattle.engine.specs.declared.Move.the-variants.{Stayed}
+use Rattle.geometry.specs.Entry.{empty}
 use Rattle.engine.specs.State.{State}
-use Rattle.engine.specs.Answer.{numberOf, placeOf, moveOf}
+use Rattle.engine.specs.Answer.{numberOf, placeOf, moveOf, slotMovedTo, rowSentHome}
 use Rattle.engine.specs.Ladder.{inspectNumber}
 use Rattle.engine.specs.Calls as calls
+use Rattle.history.specs.Tally as tally
 
--- A call with its arguments, all lent memory left out. 'A read's buffer and a write's bytes serve their own call only.'
+-- A call with its arguments. 'A read's buffer and a write's bytes serve their own call only.'
 pub data Call : Type 0 where
   -- row, buffer
   read : ℕ → List ℕ → Call
   -- row, column, bytes
   write : ℕ → ℕ → List ℕ → Call
   tick : Call
-  -- row; either of inspect's two calls
+  -- row; either of inspect's two calls. The part that the second gives is no part of the list: it is asked for after it
   inspect : ℕ → Call
 
--- What a call answers.
+-- What a call answers, in document 01's numbers.
 pub record Answer : Type 0 where
   pub number : ℕ
+  -- the slot moved to and the row sent home, 65535 for none
+  pub slot : ℕ
+  pub row : ℕ
   pub place : ℕ
-  -- the slot moved to and the row sent home
-  pub moved : Move
-  -- the read buffer afterwards, or inspect's part
-  pub bytes : List ℕ
+  -- the read buffer afterwards
+  pub buffer : List ℕ
 
+-- an answer that has no figure beside its number: 'each figure in it is 0, and slot moved to and row sent home are none'
+abbrev pub figureless : ℕ → List ℕ → Answer
+figureless number buffer = record { number = number; slot = empty; row = empty; place = 0; buffer = buffer }
+
+-- what a call leaves and answers
 pub record Step : Type 0 where
   pub state : State
   pub answer : Answer
-
--- the answer of a call that gives a number and bytes alone
-abbrev pub bare : ℕ → List ℕ → Answer
-bare number bytes = record { number = number; place = 0; moved = Stayed; bytes = bytes }
 
 abbrev pub ofAccess : calls.Accessed → Step
 ofAccess c =
     record {
       state = c .state;
-      answer = record { number = numberOf (c .answer); place = placeOf (c .answer); moved = moveOf (c .answer); bytes = c .buffer };
+      answer = record {
+        number = numberOf (c .answer);
+        slot = slotMovedTo (moveOf (c .answer));
+        row = rowSentHome (moveOf (c .answer));
+        place = placeOf (c .answer);
+        buffer = c .buffer;
+      };
     }
 
 abbrev pub ofNoted : calls.Noted → Step
-ofNoted c = record { state = c .state; answer = bare (c .number) [] }
+ofNoted c = record { state = c .state; answer = figureless (c .number) [] }
 
 -- one call, by the definitions that the engine's promises cite
 unfoldable pub step : Settings → State → Call → Step
 step S σ (read r buffer) = ofAccess (calls.read S σ r buffer)
 step S σ (write r column bytes) = ofAccess (calls.write S σ r column bytes)
 step S σ tick = ofNoted (calls.tick S σ)
-step S σ (inspect r) = record { state = σ; answer = bare (inspectNumber S σ r) (calls.inspectPart S σ r) }
+step S σ (inspect r) = record { state = σ; answer = figureless (inspectNumber S σ r) [] }
 
 -- the memory that a list of calls leaves
 abbrev pub run : Settings → State → List Call → State
@@ -68,7 +78,31 @@ abbrev pub events : Settings → State → List Call → List Event
 events S σ [] = []
 events S σ (c ∷ cs) = record { call = c; answer = (step S σ c) .answer } ∷ events S ((step S σ c) .state) cs
 
+-- ---- what the tally is fed of an event
+
+abbrev pub requestOf : Call → tally.Request
+requestOf (read r buffer) = tally.access r
+requestOf (write r column bytes) = tally.access r
+requestOf tick = tally.tick
+requestOf (inspect r) = tally.inspect r
+
+abbrev pub reportOf : Event → tally.Report
+reportOf e =
+    record {
+      request = requestOf (e .call);
+      number = e .answer .number;
+      slot = e .answer .slot;
+      row = e .answer .row;
+    }
+
+-- ---- lists
+
 -- of every element of a list
 abbrev pub Each : {A : Type 0} → (A → Type 0) → List A → Type 0
 Each P [] = Unit {0}
 Each P (x ∷ xs) = P x × Each P xs
+
+-- x stands in the list
+abbrev pub OneOf : List ℕ → ℕ → Type 0
+OneOf [] x = ⊥
+OneOf (y ∷ ys) x = (x ≡ y) ⊎ OneOf ys x

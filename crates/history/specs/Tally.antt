@@ -1,5 +1,5 @@
--- Document 01, 'The tally of demand 3': kept from outside. It is fed a call with its arguments and, of the answer, the number,
--- the slot moved to and the row sent home; it never sees a table, the tracker or the control record.
+-- Document 01, 'The tally of demand 3': kept from outside. This file names no state, no call with its memory and no
+-- answer: what the tally can see is a `Report`.
 -- Assumes nothing.
 use Prim.Native.Nat.{ℕ, suc, _+_, _-_}
 use mathlib.Core.Bool.{Bool, true, false, cond, _&&_}
@@ -7,9 +7,24 @@ use mathlib.Core.List.{List, [], _∷_}
 use lib.Dec.{eqb}
 use Rattle.geometry.specs.declared.Settings.{Settings}
 use Rattle.geometry.specs.Numbering.{homeRow, slotRow}
-use Rattle.engine.specs.declared.Move.{Move}
-use Rattle.engine.specs.declared.Move.the-variants.{Stayed, ToSlot, OverSlot}
-use Rattle.history.specs.Run.{Call, read, write, tick, inspect, Event}
+use Rattle.geometry.specs.Entry.{empty}
+
+-- 'each call with its arguments, all lent memory left out': which call it is, and its row
+pub data Request : Type 0 where
+  -- a read or a write
+  access : ℕ → Request
+  tick : Request
+  -- either of inspect's calls
+  inspect : ℕ → Request
+
+-- 'It is fed each call .., and, from the answer, the number, the slot moved to and the row sent home'
+pub record Report : Type 0 where
+  pub request : Request
+  pub number : ℕ
+  -- the slot moved to, 65535 for none
+  pub slot : ℕ
+  -- the row sent home, 65535 for none
+  pub row : ℕ
 
 -- 'It holds a place for each visible row, a count of openings for each physical row, and a count of quarantines.'
 pub record Tally : Type 0 where
@@ -21,58 +36,75 @@ pub record Tally : Type 0 where
 abbrev pub start : Tally
 start = record { place = λ r. homeRow r; openings = λ p. 0; quarantines = 0 }
 
--- the counts with physical row p opened once more
+-- how often x stands in a list
 unfoldable pub hit : ℕ → ℕ → ℕ
 hit p x = cond (eqb x p) 1 0
 
-abbrev pub opened : ℕ → (ℕ → ℕ) → ℕ → ℕ
-opened p openings = λ x. openings x + hit p x
+abbrev pub times : ℕ → List ℕ → ℕ
+times x [] = 0
+times x (p ∷ ps) = hit p x + times x ps
+
+-- the counts after each physical row of a list is opened once
+abbrev pub opened : List ℕ → (ℕ → ℕ) → ℕ → ℕ
+opened ps openings = λ x. openings x + times x ps
 
 -- the places with row r's place become p
 abbrev pub placed : ℕ → ℕ → (ℕ → ℕ) → ℕ → ℕ
 placed r p place = λ x. cond (eqb x r) p (place x)
 
 -- 'Accepted read or write of row r, whose place is p: p is opened once.'
-abbrev pub accessed : Settings → Tally → ℕ → Move → Tally
-accessed S τ r Stayed =
-    record { place = τ .place; openings = opened (τ .place r) (τ .openings); quarantines = τ .quarantines }
--- 'If a slot s moved to is answered, that is one quarantine: p and N + s are opened once each for the copy, and r's place becomes N + s.'
-accessed S τ r (ToSlot s) =
+abbrev pub afterStay : Settings → Tally → ℕ → Tally
+afterStay S τ r =
+    let p : ℕ = τ .place r in
+    record { place = τ .place; openings = opened (p ∷ []) (τ .openings); quarantines = τ .quarantines }
+
+-- 'If a slot s moved to is answered, that is one quarantine: p and N + s are opened once each for the copy, and r's place
+-- becomes N + s.'
+abbrev pub afterMove : Settings → Tally → ℕ → ℕ → Tally
+afterMove S τ r s =
+    let p : ℕ = τ .place r in
     record {
-      place = placed r (slotRow S (s .0)) (τ .place);
-      openings = opened (slotRow S (s .0)) (opened (τ .place r) (opened (τ .place r) (τ .openings)));
-      quarantines = suc (τ .quarantines);
-    }
--- 'If a row v sent home is answered too, N + s and v's home are opened once more each, and v's place is its home again.'
-accessed S τ r (OverSlot s v) =
-    record {
-      place = placed (v .0) (homeRow (v .0)) (placed r (slotRow S (s .0)) (τ .place));
-      openings = opened (homeRow (v .0)) (opened (slotRow S (s .0)) (opened (slotRow S (s .0)) (opened (τ .place r) (opened (τ .place r) (τ .openings)))));
+      place = placed r (slotRow S s) (τ .place);
+      openings = opened (p ∷ p ∷ slotRow S s ∷ []) (τ .openings);
       quarantines = suc (τ .quarantines);
     }
 
--- an accepted call: 'Accepted tick: it .. opens nothing and moves no place. Inspect, by either of its calls, ..: nothing.'
-abbrev pub accepted : Settings → Tally → Call → Move → Tally
-accepted S τ (read r buffer) m = accessed S τ r m
-accepted S τ (write r column bytes) m = accessed S τ r m
-accepted S τ tick m = τ
-accepted S τ (inspect r) m = τ
+-- 'If a row v sent home is answered too, N + s and v's home are opened once more each, and v's place is its home again.'
+abbrev pub afterMoveOver : Settings → Tally → ℕ → ℕ → ℕ → Tally
+afterMoveOver S τ r s v =
+    let p : ℕ = τ .place r in
+    record {
+      place = placed v (homeRow v) (placed r (slotRow S s) (τ .place));
+      openings = opened (p ∷ p ∷ slotRow S s ∷ slotRow S s ∷ homeRow v ∷ []) (τ .openings);
+      quarantines = suc (τ .quarantines);
+    }
+
+-- which of the three, by what is answered
+abbrev pub afterAccess : Settings → Tally → ℕ → ℕ → ℕ → Tally
+afterAccess S τ r slot row =
+    cond (eqb slot empty) (afterStay S τ r) (cond (eqb row empty) (afterMove S τ r slot) (afterMoveOver S τ r slot row))
+
+-- an accepted call. 'Accepted tick: it .. opens nothing and moves no place.' 'Inspect, by either of its calls, ..:
+-- nothing.'
+abbrev pub afterRequest : Settings → Tally → Request → ℕ → ℕ → Tally
+afterRequest S τ (access r) slot row = afterAccess S τ r slot row
+afterRequest S τ tick slot row = τ
+afterRequest S τ (inspect r) slot row = τ
 
 -- '.. and any refused call: nothing.'
-abbrev pub feed : Settings → Tally → Event → Tally
-feed S τ e = cond (eqb (e .answer .number) 0) (accepted S τ (e .call) (e .answer .moved)) τ
+abbrev pub feed : Settings → Tally → Report → Tally
+feed S τ e = cond (eqb (e .number) 0) (afterRequest S τ (e .request) (e .slot) (e .row)) τ
 
 -- ---- epochs
 
-abbrev pub isTick : Call → Bool
-isTick (read r buffer) = false
-isTick (write r column bytes) = false
+abbrev pub isTick : Request → Bool
+isTick (access r) = false
 isTick tick = true
 isTick (inspect r) = false
 
 -- 'Accepted tick: it ends the epoch'
-abbrev pub endsEpoch : Event → Bool
-endsEpoch e = eqb (e .answer .number) 0 && isTick (e .call)
+abbrev pub endsEpoch : Report → Bool
+endsEpoch e = eqb (e .number) 0 && isTick (e .request)
 
 -- the tally at two points of a history
 pub record Stretch : Type 0 where
@@ -88,7 +120,7 @@ quarantinesIn e = e .last .quarantines - e .first .quarantines
 
 -- 'An epoch runs from set-up or an accepted tick to the next accepted tick, or to the end of the list'.
 -- τ₀: the tally at the start of the epoch that runs; τ: the tally now
-abbrev pub epochs : Settings → Tally → Tally → List Event → List Stretch
+abbrev pub epochs : Settings → Tally → Tally → List Report → List Stretch
 epochs S τ₀ τ [] = record { first = τ₀; last = τ } ∷ []
 epochs S τ₀ τ (e ∷ es) =
     cond (endsEpoch e)

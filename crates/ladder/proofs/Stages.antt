@@ -1,20 +1,19 @@
--- The stages of the code are the ladder and the steps. Assumes nothing.
+-- The stages of the code are the ladder. Assumes nothing.
 use Prim.Native.Nat.{ℕ, _+_, _-_, _<_, _≤_}
 use native.Mathlib.Omega.{arith}
 use mathlib.Core.Path.{_≡_, sym, ap, _∙_}
 use mathlib.Core.Logic.{inl, inr, _≢_}
-use mathlib.Core.Bool.{Bool, true, false, cond, not, _||_}
+use mathlib.Core.Bool.{Bool, true, false}
 use mathlib.Core.List.{List}
-use lib.Dec.{ltb, leb, eqb}
-use lib.ListN.{getD}
-use borrow.Author.Tests.{le-leb, lt-leb, lt-ltb, le-ltb, eq-eqb, ne-eqb, ltb-true, not-true}
+use lib.Dec.{ltb, eqb}
+use lib.ListN.{length, getD}
+use borrow.Author.Tests.{lt-ltb, le-ltb, eq-eqb, ne-eqb}
 use Rattle.geometry.specs.declared.Settings.{Settings}
 use Rattle.geometry.specs.declared.Control.{Control}
 use Rattle.geometry.specs.declared.PhysicalRow.{PhysicalRow}
 use Rattle.geometry.specs.Numbering.{physical, slot, visible}
 use Rattle.geometry.specs.Entry.{empty}
-use Rattle.geometry.proofs.Cases.{split, lt?}
-use Rattle.geometry.proofs.Tests.{and-left, and-right}
+use Rattle.geometry.proofs.Cases.{lt?}
 use Rattle.geometry.proofs.Facts.{Ranges, Exact, ranges-facts, lengths-facts}
 use Rattle.tracker.specs.Scan.{some}
 use Rattle.tracker.proofs.Scans.{some-none}
@@ -27,76 +26,48 @@ use Rattle.engine.specs.declared.Move.the-variants.{Stayed, ToSlot, OverSlot}
 use Rattle.ladder.specs.declared.Verdict.{Verdict}
 use Rattle.ladder.specs.declared.Verdict.the-variants.{Stop, Go}
 use Rattle.engine.specs.State.{State, lengthsOf, forwardOf}
-use Rattle.engine.specs.Steps.{placeBy, place, tracked, moves, destinationFrom, destination, rise, riseFrom, moveInto, move}
-use Rattle.engine.specs.Ladder.{rung, _▹_, controlHolds, pointsBack, pointersHold, destinationHolds, setUpNumber, tickNumber, inspectNumber, accessNumber}
-use Rattle.ladder.specs.Stages.{rowNumber, quarantineOf, decisionOf}
-use Rattle.engine.proofs.Rungs.{pass, held, passes, holds}
-use Rattle.engine.proofs.Facts.{Steady, steady, tick-facts, points-back}
+use Rattle.engine.specs.Steps.{place, tracked, moves, destinationFrom, riseFrom, moveInto, moveFrom, move}
+use Rattle.engine.specs.Ladder.{stops, _▹_, pointsBack, rowNumber, quarantineNumber, lateNumber, tickNumber, accessNumber}
+use Rattle.ladder.specs.Verdicts.{verdictOf}
+use Rattle.engine.proofs.Rungs.{halts, goes-on}
+use Rattle.engine.proofs.Facts.{Steady, steady, none-above, tick-facts}
 
--- ---- rungs
+-- ---- a stage gives the number x: the ladder ends there, or goes on to the next stage, which gives y
 
--- the ladder stops at its first number
-pub stops : {a : ℕ} (b : ℕ) → a ≢ 0 → a ▹ b ≡ a
-unfolding _▹_
-stops {a} b n = rw (ne-eqb a 0 n)
+pub ends : {x first : ℕ} (next : ℕ) → x ≡ first → x ≢ 0 → x ≡ first ▹ next
+ends next e n = e ∙ sym (halts next (λ z. n (e ∙ z)))
 
-pub goes-on : {a : ℕ} (b : ℕ) → a ≡ 0 → a ▹ b ≡ b
-unfolding _▹_
-goes-on b e = rw e
+pub continues : {x first y next : ℕ} → x ≡ first → x ≡ 0 → y ≡ next → y ≡ first ▹ next
+continues {next = next} e z f = f ∙ sym (goes-on next (sym e ∙ z))
 
-pub fails : {test : Bool} (x : ℕ) → test ≡ false → rung test x ≡ x
-unfolding rung
-fails x e = rw e
+-- ---- the condition of 6, for a write
 
-joined : (a b c : ℕ) → (a ▹ b) ▹ c ≡ a ▹ b ▹ c
-unfolding _▹_
-joined a b c = elim (split (eqb a 0)) [ inl e ↦ rw e | inr e ↦ rw (e, e) ]
+pub past-end : (w column count : ℕ) → w < column → true ≡ ltb w (column + count)
+past-end w column count h = sym (lt-ltb w (column + count) (omega arith))
 
--- ---- 6, for a write
-
-pub past-end : (w column count : ℕ) → w < column → false ≡ leb (column + count) w
-past-end w column count h = sym (lt-leb (column + count) w (omega arith))
-
-pub within-rest : (w column count : ℕ) → column ≤ w → leb count (w - column) ≡ leb (column + count) w
+pub within-rest : (w column count : ℕ) → column ≤ w → ltb (w - column) count ≡ ltb w (column + count)
 within-rest w column count h =
     elim (lt? (w - column) count) [
-      | inl k ↦ lt-leb count (w - column) k ∙ sym (lt-leb (column + count) w (omega arith))
-      | inr k ↦ le-leb count (w - column) k ∙ sym (le-leb (column + count) w (omega arith))
+      | inl k ↦ lt-ltb (w - column) count k ∙ sym (lt-ltb w (column + count) (omega arith))
+      | inr k ↦ le-ltb (w - column) count k ∙ sym (le-ltb w (column + count) (omega arith))
     ]
 
--- ---- tick
+-- ---- past 1 to 4, as the code needs it
 
-module _ (S : Settings) (σ : State) where
-  pub tick-stops : (x : ℕ) → x ≡ setUpNumber S σ → x ≢ 0 → x ≡ tickNumber S σ
-  unfolding tickNumber
-  tick-stops x e n = e ∙ sym (stops _ (λ z. n (e ∙ z)))
-
-  pub tick-4 : setUpNumber S σ ≡ 0 → controlHolds S (σ .control) (σ .counts) ≡ false → 4 ≡ tickNumber S σ
-  unfolding tickNumber
-  tick-4 z f = sym (goes-on _ z ∙ fails 4 f)
-
-  pub tick-0 : setUpNumber S σ ≡ 0 → controlHolds S (σ .control) (σ .counts) ≡ true → 0 ≡ tickNumber S σ
-  unfolding tickNumber
-  tick-0 z f = sym (passes z (holds 4 f))
-
--- past 1 to 4, as the code needs it
-pub record Passed (S : Settings) (σ : State) : Type 0 where
+pub record Checked (S : Settings) (σ : State) : Type 0 where
   pub ranges : Ranges S
   pub lengths : Exact S (lengthsOf σ)
   pub steady : Steady S σ
   -- a count can rise by 1
   pub counts : some (λ count. ltb 4294967294 count) (σ .counts) ≡ false
 
-counts-fit : (acts : ℕ) (counts : List ℕ) → acts ≤ 1360000 → some (λ count. ltb acts count) counts ≡ false → some (λ count. ltb 4294967294 count) counts ≡ false
+counts-fit : (acts : ℕ) (counts : List ℕ) → acts ≤ 1360000 → some (λ count. ltb acts count) counts ≡ false
+    → some (λ count. ltb 4294967294 count) counts ≡ false
 counts-fit acts counts few none =
     some-none (λ count. ltb 4294967294 count) counts (λ i b. le-ltb 4294967294 (getD counts i 0) (omega (arith, counts-below counts acts i none b)))
 
-none-above : (S : Settings) (control : Control) (counts : List ℕ) → controlHolds S control counts ≡ true → some (λ count. ltb (control .acts) count) counts ≡ false
-unfolding controlHolds
-none-above S control counts h = not-true (some (λ count. ltb (control .acts) count) counts) (search (and-left, and-right) depth 8)
-
-pub passed : (S : Settings) (σ : State) → tickNumber S σ ≡ 0 → Passed S σ
-passed S σ z =
+pub checked : (S : Settings) (σ : State) → tickNumber S σ ≡ 0 → Checked S σ
+checked S σ z =
     let f = tick-facts S σ z in
     let R = ranges-facts S (f .0 .ranges) in
     let s = steady S σ (f .1) in
@@ -107,166 +78,83 @@ passed S σ z =
       counts = counts-fit (σ .control .acts) (σ .counts) (omega (arith, s .acts-in, R .l-high)) (none-above S (σ .control) (σ .counts) (f .1));
     }
 
--- ---- inspect
+-- the tables are as long as `row_number` asks; x: the number of 1 to 4, as the code has it
+pub tables-long : (S : Settings) (σ : State) {x : ℕ} → x ≡ tickNumber S σ → x ≡ 0 → (length (σ .forward) ≡ S .n) × (length (σ .reverse) ≡ S .q)
+tables-long S σ e z =
+    let lengths = checked S σ (sym e ∙ z) .lengths in
+    (lengths .forward, lengths .reverse)
 
-module _ (S : Settings) (σ : State) (r : ℕ) where
-  pub inspect-stops : (x : ℕ) → x ≡ tickNumber S σ → x ≢ 0 → x ≡ inspectNumber S σ r
-  unfolding inspectNumber
-  inspect-stops x e n = e ∙ sym (stops _ (λ z. n (e ∙ z)))
+-- ---- 9, the destination's 7, and the move; d: the destination
 
-  module _ (tick : tickNumber S σ ≡ 0) where
-    pub inspect-5 : S .n ≤ r → 5 ≡ inspectNumber S σ r
-    unfolding inspectNumber rung _▹_
-    inspect-5 h = rw (tick, le-ltb r (S .n) h)
+module _ (S : Settings) (control : Control) (forward reverse : List ℕ) (entry : ℕ) where
+  -- what `quarantine` promises
+  abbrev pub quarantineVerdict : Verdict
+  quarantineVerdict = verdictOf (quarantineNumber S control forward reverse entry) (moveFrom S (control .head) reverse entry true)
 
-    module _ (row-in : r < S .n) (e : ℕ) (entry : e ≡ forwardOf σ r) where
-      pub inspect-7 : pointsBack e (S .q) (σ .reverse) r ≡ false → 7 ≡ inspectNumber S σ r
-      unfolding inspectNumber rung _▹_
-      inspect-7 f = let g : pointersHold S σ r ≡ false = rw entry at f in rw (tick, lt-ltb r (S .n) row-in, g)
+  pub no-room : S .q < control .passed + riseFrom (control .head) entry → Stop 9 ≡ quarantineVerdict
+  unfolding verdictOf quarantineNumber stops _▹_
+  no-room h = rw (lt-ltb (S .q) (control .passed + riseFrom (control .head) entry) h)
 
-      pub inspect-0 : pointsBack e (S .q) (σ .reverse) r ≡ true → 0 ≡ inspectNumber S σ r
-      unfolding inspectNumber rung _▹_
-      inspect-0 f = let g : pointersHold S σ r ≡ true = rw entry at f in rw (tick, lt-ltb r (S .n) row-in, g)
+  module _ (room : control .passed + riseFrom (control .head) entry ≤ S .q)
+      {d : ℕ} (target : d ≡ destinationFrom S (control .head) entry) {e : ℕ} (was : e ≡ getD reverse d empty) where
+    pub unsound : pointsBack e (S .n) forward d ≡ false → Stop 7 ≡ quarantineVerdict
+    unfolding verdictOf quarantineNumber stops _▹_
+    unsound f = rw (← target, le-ltb (S .q) (control .passed + riseFrom (control .head) entry) room, rw was at f)
 
--- ---- the rungs 5 to 8
+    sound : pointsBack e (S .n) forward d ≡ true → Go (moveInto d e) ≡ quarantineVerdict
+    unfolding verdictOf quarantineNumber stops _▹_
+    sound f = rw (← target, le-ltb (S .q) (control .passed + riseFrom (control .head) entry) room, rw was at f, was)
 
-module _ (S : Settings) (control : Control) (r : ℕ) (span : Bool) (forward reverse : List ℕ) where
-  pub row-5 : S .n ≤ r → 5 ≡ rowNumber S control r span forward reverse
-  unfolding rowNumber rung _▹_
-  row-5 h = rw (le-ltb r (S .n) h)
-
-  module _ (row-in : r < S .n) where
-    pub row-6 : span ≡ false → 6 ≡ rowNumber S control r span forward reverse
-    unfolding rowNumber rung _▹_
-    row-6 f = rw (lt-ltb r (S .n) row-in, f)
-
-    module _ (spans : span ≡ true) (e : ℕ) (entry : e ≡ getD forward r empty) where
-      pub row-7 : pointsBack e (S .q) reverse r ≡ false → 7 ≡ rowNumber S control r span forward reverse
-      unfolding rowNumber rung _▹_
-      row-7 f = rw (lt-ltb r (S .n) row-in, spans, rw entry at f)
-
-      pub row-8 : pointsBack e (S .q) reverse r ≡ true → control .acts ≡ S .l → 8 ≡ rowNumber S control r span forward reverse
-      unfolding rowNumber rung _▹_
-      row-8 f a = rw (lt-ltb r (S .n) row-in, spans, rw entry at f, eq-eqb (control .acts) (S .l) a)
-
-      pub row-0 : pointsBack e (S .q) reverse r ≡ true → control .acts ≢ S .l → 0 ≡ rowNumber S control r span forward reverse
-      unfolding rowNumber rung _▹_
-      row-0 f a = rw (lt-ltb r (S .n) row-in, spans, rw entry at f, ne-eqb (control .acts) (S .l) a)
-
--- what passing them tells
-pub row-facts : (S : Settings) (control : Control) (r : ℕ) (span : Bool) (forward reverse : List ℕ) → rowNumber S control r span forward reverse ≡ 0
-    → (r < S .n) × (pointsBack (getD forward r empty) (S .q) reverse r ≡ true)
-unfolding rowNumber
-row-facts S control r span forward reverse h =
-    let p5 = pass _ _ h in
-    let p6 = pass _ _ (p5 .1) in
-    let p7 = pass _ _ (p6 .1) in
-    (ltb-true r (S .n) (held _ _ (p5 .0)), held _ _ (p7 .0))
-
--- the place p of such a row is a 16-bit number
-pub place-fits : (S : Settings) → Ranges S → (r : ℕ) (forward reverse : List ℕ) → r < S .n → pointsBack (getD forward r empty) (S .q) reverse r ≡ true
-    → (p : PhysicalRow) → p ≡ physical (placeBy S (getD forward r empty) r) → p .0 < 65500
-place-fits S R r forward reverse row-in back p placed =
-    let e = getD forward r empty in
-    let small : placeBy S e r < 65500 =
-    elim (points-back e (S .q) reverse r back) [
-      | inl z ↦ rw (eq-eqb e empty z) (omega (arith, R .n-high))
-      | inr k ↦ rw (ne-eqb e empty (λ z. omega (arith, k .0, R .q-high))) (omega (arith, k .0, R .n-high, R .q-high))
-    ] in
-    rw placed small
-
--- ---- 9, the destination's 7, and the move
-
-module _ (S : Settings) (control : Control) (entry : ℕ) (forward reverse : List ℕ) (d : ℕ) where
-  pub no-room : S .q < control .passed + riseFrom (control .head) entry → Stop 9 ≡ quarantineOf S control entry forward reverse d
-  unfolding quarantineOf
-  no-room h = rw (lt-leb (control .passed + riseFrom (control .head) entry) (S .q) h)
-
-  module _ (room : control .passed + riseFrom (control .head) entry ≤ S .q) (e : ℕ) (was : e ≡ getD reverse d empty) where
-    pub unsound : pointsBack e (S .n) forward d ≡ false → Stop 7 ≡ quarantineOf S control entry forward reverse d
-    unfolding quarantineOf
-    unsound f = rw (le-leb (control .passed + riseFrom (control .head) entry) (S .q) room, rw was at f)
-
-    sound : pointsBack e (S .n) forward d ≡ true → Go (moveInto d e) ≡ quarantineOf S control entry forward reverse d
-    unfolding quarantineOf
-    sound f = rw (le-leb (control .passed + riseFrom (control .head) entry) (S .q) room, rw was at f, was)
-
-    pub sound-to : pointsBack e (S .n) forward d ≡ true → eqb e empty ≡ true → Go (ToSlot (slot d)) ≡ quarantineOf S control entry forward reverse d
+    pub sound-to : pointsBack e (S .n) forward d ≡ true → eqb e empty ≡ true → Go (ToSlot (slot d)) ≡ quarantineVerdict
     sound-to f k = rw k at (sound f)
 
-    pub sound-over : pointsBack e (S .n) forward d ≡ true → eqb e empty ≡ false → Go (OverSlot (slot d) (visible e)) ≡ quarantineOf S control entry forward reverse d
+    pub sound-over : pointsBack e (S .n) forward d ≡ true → eqb e empty ≡ false → Go (OverSlot (slot d) (visible e)) ≡ quarantineVerdict
     sound-over f k = rw k at (sound f)
 
-module _ (S : Settings) (control : Control) (entry estimate : ℕ) (forward reverse : List ℕ) where
-  pub rests : isDue (S .a) estimate ≡ false → Go Stayed ≡ decisionOf S control entry estimate forward reverse
-  unfolding decisionOf
-  rests f = rw f
+-- ---- 8 before them
 
-  pub is-moved : isDue (S .a) estimate ≡ true → quarantineOf S control entry forward reverse (destinationFrom S (control .head) entry) ≡ decisionOf S control entry estimate forward reverse
-  unfolding decisionOf
-  is-moved f = rw f
+module _ (S : Settings) (control : Control) (forward reverse : List ℕ) (entry : ℕ) (due : Bool) where
+  -- what `decide` promises
+  abbrev pub lateVerdict : Verdict
+  lateVerdict = verdictOf (lateNumber S control forward reverse entry due) (moveFrom S (control .head) reverse entry due)
 
--- ---- the verdict
+  pub epoch-over : control .acts ≡ S .l → Stop 8 ≡ lateVerdict
+  unfolding verdictOf lateNumber stops _▹_
+  epoch-over e = rw (eq-eqb (control .acts) (S .l) e)
 
--- all that is decided of an access
-unfoldable pub verdictOf : Settings → State → ℕ → Bool → Verdict
-verdictOf S σ r span = cond (eqb (accessNumber S σ r span) 0) (Go (move S σ r)) (Stop (accessNumber S σ r span))
+  module _ (more : control .acts ≢ S .l) where
+    pub rests : due ≡ false → Go Stayed ≡ lateVerdict
+    unfolding verdictOf lateNumber stops _▹_
+    rests f = rw (ne-eqb (control .acts) (S .l) more, f)
 
-module _ (S : Settings) (σ : State) (r : ℕ) (span : Bool) where
-  row : ℕ
-  row = rowNumber S (σ .control) r span (σ .forward) (σ .reverse)
+    pub is-moved : due ≡ true → quarantineVerdict S control forward reverse entry ≡ lateVerdict
+    unfolding lateNumber stops _▹_
+    is-moved f = rw (ne-eqb (control .acts) (S .l) more, f)
 
-  -- the last two rungs
-  last : ℕ
-  last =
-      rung (not (moves S σ r) || leb (σ .control .passed + rise σ r) (S .q)) 9
-      ▹ rung (not (moves S σ r) || destinationHolds S σ (destination S σ r)) 7
+-- ---- all that is decided of an access
 
-  access-is : accessNumber S σ r span ≡ tickNumber S σ ▹ row ▹ last
-  unfolding accessNumber rowNumber row last
-  access-is = ap (λ (x : ℕ). tickNumber S σ ▹ x) (sym (joined _ _ _ ∙ ap (λ (x : ℕ). rung (ltb r (S .n)) 5 ▹ x) (joined _ _ _ ∙ ap (λ (x : ℕ). rung span 6 ▹ x) (joined _ _ _))))
+abbrev pub judgementOf : Settings → State → ℕ → Bool → Verdict
+judgementOf S σ r off = verdictOf (accessNumber S σ r off) (move S σ r)
 
-  refused : (x : ℕ) → x ≢ 0 → accessNumber S σ r span ≡ x → Stop x ≡ verdictOf S σ r span
+module _ (S : Settings) (σ : State) (r : ℕ) (off : Bool) where
+  refused : (x : ℕ) → x ≢ 0 → x ≡ accessNumber S σ r off → Stop x ≡ judgementOf S σ r off
   unfolding verdictOf
-  refused x n e = rw (e, ne-eqb x 0 n)
+  refused x n e = rw (← e, ne-eqb x 0 n)
 
-  pub verdict-early : (x : ℕ) → x ≡ tickNumber S σ → x ≢ 0 → Stop x ≡ verdictOf S σ r span
-  verdict-early x e n = refused x n (access-is ∙ stops _ (λ z. n (e ∙ z)) ∙ sym e)
+  pub refused-early : (x : ℕ) → x ≡ tickNumber S σ → x ≢ 0 → Stop x ≡ judgementOf S σ r off
+  unfolding accessNumber
+  refused-early x e n = refused x n (ends _ e n)
 
   module _ (tick : tickNumber S σ ≡ 0) where
-    pub verdict-row : (x : ℕ) → x ≡ rowNumber S (σ .control) r span (σ .forward) (σ .reverse) → x ≢ 0 → Stop x ≡ verdictOf S σ r span
-    unfolding row
-    verdict-row x e n = refused x n (access-is ∙ goes-on _ tick ∙ stops _ (λ z. n (e ∙ z)) ∙ sym e)
+    pub refused-row : (x : ℕ) → x ≡ rowNumber S (σ .forward) (σ .reverse) r off → x ≢ 0 → Stop x ≡ judgementOf S σ r off
+    unfolding accessNumber
+    refused-row x e n = refused x n (ends _ e n ∙ sym (goes-on _ tick))
 
-    module _ (row-0 : rowNumber S (σ .control) r span (σ .forward) (σ .reverse) ≡ 0) where
-      number-last : accessNumber S σ r span ≡ last
-      unfolding row
-      number-last = access-is ∙ goes-on _ tick ∙ goes-on _ row-0
-
-      verdict-rests : moves S σ r ≡ false → Go Stayed ≡ verdictOf S σ r span
-      unfolding verdictOf move last rung _▹_
-      verdict-rests m =
-          let z : accessNumber S σ r span ≡ 0 = number-last ∙ rw m in
-          rw (z, m)
-
-      verdict-moves : moves S σ r ≡ true
-          → quarantineOf S (σ .control) (forwardOf σ r) (σ .forward) (σ .reverse) (destination S σ r) ≡ verdictOf S σ r span
-      unfolding verdictOf quarantineOf move last rung _▹_
-      verdict-moves m =
-          elim (split (leb (σ .control .passed + rise σ r) (S .q))) [
-            | inl k ↦ elim (split (destinationHolds S σ (destination S σ r))) [
-              | inl b ↦ let z : accessNumber S σ r span ≡ 0 = number-last ∙ rw (m, k, b) in rw (k, b, z, m)
-              | inr b ↦ let z : accessNumber S σ r span ≡ 7 = number-last ∙ rw (m, k, b) in rw (k, b, z)
-            ]
-            | inr k ↦ let z : accessNumber S σ r span ≡ 9 = number-last ∙ rw (m, k) in rw (k, z)
-          ]
-
-      verdict-decided : decisionOf S (σ .control) (forwardOf σ r) (tracked S σ r .estimate) (σ .forward) (σ .reverse) ≡ verdictOf S σ r span
-      verdict-decided =
-          elim (split (moves S σ r)) [
-            | inl m ↦ sym (is-moved S (σ .control) (forwardOf σ r) (tracked S σ r .estimate) (σ .forward) (σ .reverse) m) ∙ verdict-moves m
-            | inr m ↦ sym (rests S (σ .control) (forwardOf σ r) (tracked S σ r .estimate) (σ .forward) (σ .reverse) m) ∙ verdict-rests m
-          ]
+    -- past 5 to 7 too, `decide` has the rest of the ladder
+    late-is : rowNumber S (σ .forward) (σ .reverse) r off ≡ 0
+        → lateVerdict S (σ .control) (σ .forward) (σ .reverse) (forwardOf σ r) (moves S σ r) ≡ judgementOf S σ r off
+    unfolding accessNumber move
+    late-is row = ap (λ (x : ℕ). verdictOf x (move S σ r)) (sym (goes-on _ tick ∙ goes-on _ row))
 
 -- what the code has looked up on the way: the place, the tracker's way and the estimate
 pub record Looked (S : Settings) (σ : State) (r : ℕ) (p : PhysicalRow) (way : Choice) (estimate : ℕ) : Type 0 where
@@ -281,7 +169,8 @@ module _ {S : Settings} {σ : State} {r : ℕ} {p : PhysicalRow} {way : Choice} 
   looked-estimate : estimate ≡ tracked S σ r .estimate
   looked-estimate = K .estimated ∙ ap estimateBy looked-way ∙ estimate-choice (place S σ r) (σ .rows) (σ .counts) (σ .control .spill)
 
-  -- the code's decision is the verdict
-  pub judged : (span : Bool) → tickNumber S σ ≡ 0 → rowNumber S (σ .control) r span (σ .forward) (σ .reverse) ≡ 0
-      → (v : Verdict) → v ≡ decisionOf S (σ .control) (forwardOf σ r) estimate (σ .forward) (σ .reverse) → v ≡ verdictOf S σ r span
-  judged span tick row-0 v q = q ∙ rw looked-estimate (verdict-decided S σ r span tick row-0)
+  -- the code's verdict is the access's
+  pub judged : (off : Bool) → tickNumber S σ ≡ 0 → rowNumber S (σ .forward) (σ .reverse) r off ≡ 0
+      → (v : Verdict) → v ≡ lateVerdict S (σ .control) (σ .forward) (σ .reverse) (forwardOf σ r) (isDue (S .a) estimate) → v ≡ judgementOf S σ r off
+  judged off tick row v q =
+      q ∙ ap (λ (x : ℕ). lateVerdict S (σ .control) (σ .forward) (σ .reverse) (forwardOf σ r) (isDue (S .a) x)) looked-estimate ∙ late-is S σ r off tick row

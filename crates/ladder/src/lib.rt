@@ -1,14 +1,16 @@
 // The refusals, in the order of document 01. Nothing lent is written here.
 ghost use mathlib.Core.Path.{_≡_};
+ghost use mathlib.Core.Bool.{true};
 ghost use Prim.Native.Nat.{_+_, _<_, _≤_};
 ghost use lib.ListN.{length, getD};
 ghost use Rattle.geometry.specs.Numbering.{physical};
 ghost use Rattle.geometry.specs.Entry.{empty};
 ghost use Rattle.tracker.specs.Track.{isDue};
 ghost use Rattle.engine.specs.State.{stateOf};
-ghost use Rattle.engine.specs.Steps.{destinationFrom, riseFrom, placeBy};
-ghost use Rattle.engine.specs.Ladder.{fitNumber, controlHolds, pointsBack, tickNumber, inspectNumber, readSpan, writeSpan};
-ghost use Rattle.ladder.specs.Stages.{rowNumber, quarantineOf, decisionOf};
+ghost use Rattle.engine.specs.Steps.{destinationFrom, riseFrom, moveFrom, placeBy};
+ghost use Rattle.engine.specs.Ladder.{settingsNumber, fitNumber, controlUnsound, pointsBack, rowNumber};
+ghost use Rattle.engine.specs.Ladder.{readOff, writeOff, quarantineNumber, lateNumber, tickNumber, inspectNumber};
+ghost use Rattle.ladder.specs.Verdicts.{verdictOf};
 use engine::Move;
 use geometry::Control;
 use geometry::Entry;
@@ -17,9 +19,8 @@ use geometry::PhysicalRow;
 use geometry::Settings;
 use geometry::Slot;
 use geometry::VisibleRow;
-use tracker::Choice;
 
-// What is decided of an access that the rungs 1 to 8 let pass.
+// What is decided of an access that 1 to 7 let pass.
 pub enum Verdict {
     // it is refused with this number
     Stop(u32),
@@ -27,9 +28,9 @@ pub enum Verdict {
     Go(Move),
 }
 
-// 1, 2 and 3.
-pub fn fit_number(s: Settings, lent: Lengths) -> u32
-    ensures { λ r. ⌜ r ≡ fitNumber s lent ⌝ }
+// 1 and 2.
+pub fn settings_number(s: Settings) -> u32
+    ensures { λ r. ⌜ r ≡ settingsNumber s ⌝ }
 {
     if !geometry::ranges_hold(s) {
         return 1;
@@ -37,22 +38,33 @@ pub fn fit_number(s: Settings, lent: Lengths) -> u32
     if !geometry::limit_holds(s) {
         return 2;
     }
+    0
+}
+
+// 1, 2 and 3.
+pub fn fit_number(s: Settings, lent: Lengths) -> u32
+    ensures { λ r. ⌜ r ≡ fitNumber s lent ⌝ }
+{
+    let number = settings_number(s);
+    if number != 0 {
+        return number;
+    }
     if !geometry::lengths_hold(s, lent) {
         return 3;
     }
     0
 }
 
-// 4: the control record and the tracker counts.
-pub fn control_holds(control: Control, s: Settings, counts: &[u32]) -> bool
-    ensures { λ r. ⌜ r ≡ controlHolds s control (now (counts .entry)) ⌝ }
+// The condition of 4: the control record or the tracker counts are unsound.
+pub fn control_unsound(control: Control, s: Settings, counts: &[u32]) -> bool
+    ensures { λ r. ⌜ r ≡ controlUnsound s control (now (counts .entry)) ⌝ }
 {
-    (control.head < s.q)
-        & (control.passed <= s.q)
-        & (control.acts <= s.l)
-        & (control.spill <= control.acts)
-        & (control.spill < s.a)
-        & !tracker::any_above(counts, control.acts)
+    (s.q <= control.head)
+        | (s.q < control.passed)
+        | (s.l < control.acts)
+        | (control.acts < control.spill)
+        | (s.a <= control.spill)
+        | tracker::any_above(counts, control.acts)
 }
 
 // 1 to 4, which every call but set-up has to pass.
@@ -65,7 +77,10 @@ pub fn tick_number(
     rows: &[u16],
     counts: &[u32],
 ) -> u32
-    ensures { λ r. ⌜ r ≡ tickNumber s (stateOf (now (store .entry)) (now (forward .entry)) (now (reverse .entry)) (now (rows .entry)) (now (counts .entry)) control) ⌝ }
+    ensures { λ r.
+        let lent = stateOf (now (store .entry)) (now (forward .entry)) (now (reverse .entry))
+        (now (rows .entry)) (now (counts .entry)) control in
+        ⌜ r ≡ tickNumber s lent ⌝ }
 {
     let lent = Lengths {
         store: store.len(),
@@ -78,13 +93,13 @@ pub fn tick_number(
     if number != 0 {
         return number;
     }
-    if !control_holds(control, s, counts) {
+    if control_unsound(control, s, counts) {
         return 4;
     }
     0
 }
 
-// The test of both rungs 7: the entry is empty, or below the limit and the other table has x for it.
+// The test of both rows with 7: the entry is empty, or below the limit and the other table has x for it.
 fn points_back(entry: Entry, limit: u32, other: &[u16], x: u32) -> bool
     requires { ⌜ limit ≤ length (now other) ⌝ }
     ensures { λ r. ⌜ r ≡ pointsBack (entry .0) limit (now (other .entry)) x ⌝ }
@@ -99,51 +114,40 @@ fn points_back(entry: Entry, limit: u32, other: &[u16], x: u32) -> bool
     (other[at] as u32) == x
 }
 
-// The rungs 5 to 8.
-pub fn row_number(
-    control: Control,
-    s: Settings,
-    row: u32,
-    span: bool,
-    forward: &[u16],
-    reverse: &[u16],
-) -> u32
+// 5, 6 and 7; off: the condition of 6.
+pub fn row_number(s: Settings, row: u32, off: bool, forward: &[u16], reverse: &[u16]) -> u32
     requires { ⌜ (length (now forward) ≡ s .n) × (length (now reverse) ≡ s .q) ⌝ }
-    ensures { λ r. ⌜ r ≡ rowNumber s control row span (now (forward .entry)) (now (reverse .entry)) ⌝ }
+    ensures { λ r. ⌜ r ≡ rowNumber s (now (forward .entry)) (now (reverse .entry)) row off ⌝ }
 {
     if s.n <= row {
         return 5;
     }
-    if !span {
+    if off {
         return 6;
     }
     let at = row as usize;
-    let entry = Entry(forward[at]);
-    if !points_back(entry, s.q, reverse, row) {
+    if !points_back(Entry(forward[at]), s.q, reverse, row) {
         return 7;
-    }
-    if control.acts == s.l {
-        return 8;
     }
     0
 }
 
-// 6, for a read.
-pub fn read_span(s: Settings, count: usize) -> bool
-    ensures { λ r. ⌜ r ≡ readSpan s count ⌝ }
+// The condition of 6, for a read.
+pub fn read_off(s: Settings, count: usize) -> bool
+    ensures { λ r. ⌜ r ≡ readOff s count ⌝ }
 {
-    count == (s.w as usize)
+    !(count == (s.w as usize))
 }
 
-// 6, for a write: the sum of column and count is not formed.
-pub fn write_span(s: Settings, column: usize, count: usize) -> bool
-    ensures { λ r. ⌜ r ≡ writeSpan s column count ⌝ }
+// The condition of 6, for a write: the sum of column and count is not formed.
+pub fn write_off(s: Settings, column: usize, count: usize) -> bool
+    ensures { λ r. ⌜ r ≡ writeOff s column count ⌝ }
 {
     let w = s.w as usize;
     if w < column {
-        return false;
+        return true;
     }
-    count <= w - column
+    w - column < count
 }
 
 // The place of a row with that forward entry.
@@ -187,7 +191,7 @@ pub fn rise(head: u32, entry: Entry) -> u32
     1
 }
 
-// 9 and the destination's 7, and the move where neither applies.
+// 9 and the destination's 7, and the move where neither applies; entry: the forward entry of a row to be quarantined.
 fn quarantine(
     control: Control,
     s: Settings,
@@ -195,8 +199,12 @@ fn quarantine(
     forward: &[u16],
     reverse: &[u16],
 ) -> Verdict
-    requires { ⌜ (length (now forward) ≡ s .n) × (length (now reverse) ≡ s .q) × (control .head < s .q) × (control .passed ≤ s .q) × (s .q ≤ 5500) ⌝ }
-    ensures { λ r. ⌜ r ≡ quarantineOf s control (entry .0) (now (forward .entry)) (now (reverse .entry)) (destinationFrom s (control .head) (entry .0)) ⌝ }
+    requires { ⌜
+        (length (now forward) ≡ s .n) × (length (now reverse) ≡ s .q)
+        × (control .head < s .q) × (control .passed ≤ s .q) × (s .q ≤ 5500) ⌝ }
+    ensures { λ r.
+        let number = quarantineNumber s control (now (forward .entry)) (now (reverse .entry)) (entry .0) in
+        ⌜ r ≡ verdictOf number (moveFrom s (control .head) (now (reverse .entry)) (entry .0) true) ⌝ }
 {
     if s.q < control.passed + rise(control.head, entry) {
         return Verdict::Stop(9);
@@ -225,7 +233,7 @@ fn is_due(s: Settings, estimate: u32) -> bool
     estimate % s.a == 0
 }
 
-// Whether a row with that estimate is moved, and where it goes.
+// 8, 9 and the destination's 7, and where a row with that estimate goes.
 pub fn decide(
     control: Control,
     s: Settings,
@@ -234,9 +242,19 @@ pub fn decide(
     forward: &[u16],
     reverse: &[u16],
 ) -> Verdict
-    requires { ⌜ (row < length (now forward)) × (1 ≤ s .a) × (length (now forward) ≡ s .n) × (length (now reverse) ≡ s .q) × (control .head < s .q) × (control .passed ≤ s .q) × (s .q ≤ 5500) ⌝ }
-    ensures { λ r. ⌜ r ≡ decisionOf s control (getD (now (forward .entry)) row empty) estimate (now (forward .entry)) (now (reverse .entry)) ⌝ }
+    requires { ⌜
+        (row < length (now forward)) × (1 ≤ s .a)
+        × (length (now forward) ≡ s .n) × (length (now reverse) ≡ s .q)
+        × (control .head < s .q) × (control .passed ≤ s .q) × (s .q ≤ 5500) ⌝ }
+    ensures { λ r.
+        let entry = getD (now (forward .entry)) row empty in
+        let due = isDue (s .a) estimate in
+        let number = lateNumber s control (now (forward .entry)) (now (reverse .entry)) entry due in
+        ⌜ r ≡ verdictOf number (moveFrom s (control .head) (now (reverse .entry)) entry due) ⌝ }
 {
+    if control.acts == s.l {
+        return Verdict::Stop(8);
+    }
     if !is_due(s, estimate) {
         return Verdict::Go(Move::Stayed);
     }
@@ -255,18 +273,14 @@ pub fn inspect_number(
     rows: &[u16],
     counts: &[u32],
 ) -> u32
-    ensures { λ r. ⌜ r ≡ inspectNumber s (stateOf (now (store .entry)) (now (forward .entry)) (now (reverse .entry)) (now (rows .entry)) (now (counts .entry)) control) row ⌝ }
+    ensures { λ r.
+        let lent = stateOf (now (store .entry)) (now (forward .entry)) (now (reverse .entry))
+        (now (rows .entry)) (now (counts .entry)) control in
+        ⌜ r ≡ inspectNumber s lent row ⌝ }
 {
     let early = tick_number(control, s, store, forward, reverse, rows, counts);
     if early != 0 {
         return early;
     }
-    if s.n <= row {
-        return 5;
-    }
-    let at = row as usize;
-    if !points_back(Entry(forward[at]), s.q, reverse, row) {
-        return 7;
-    }
-    0
+    row_number(s, row, false, forward, reverse)
 }

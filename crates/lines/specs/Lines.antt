@@ -25,8 +25,8 @@ rowFigure (ToSlot d) = Dash
 rowFigure (OverSlot d v) = Number (v .0)
 
 -- 'refusal number or 0, place, slot moved to, row sent home'
-abbrev pub served : ℕ → Move → Line
-served place m = record { number = 0; place = Number place; slot = slotFigure m; row = rowFigure m }
+abbrev pub accessLine : ℕ → Move → Line
+accessLine place m = record { number = 0; place = Number place; slot = slotFigure m; row = rowFigure m }
 
 -- '`-` .. for all three on a tick or refusal'
 abbrev pub bare : ℕ → Line
@@ -35,7 +35,7 @@ bare number = record { number = number; place = Dash; slot = Dash; row = Dash }
 -- the line of a read, by the cases of its answer
 abbrev pub lineOfAccess : Access → Line
 lineOfAccess (Refused number) = bare number
-lineOfAccess (Done p m) = served (p .0) m
+lineOfAccess (Done p m) = accessLine (p .0) m
 
 -- ---- from a line to bytes: fields with a blank (32) between them, `-` (45) for none, a newline (10) at the end
 
@@ -44,7 +44,7 @@ abbrev pub figureBytes : Figure → List ℕ
 figureBytes Dash = 45 ∷ []
 figureBytes (Number n) = decimal n
 
--- a field behind another
+-- a field after another
 abbrev pub field : List ℕ → List ℕ
 field bytes = 32 ∷ bytes
 

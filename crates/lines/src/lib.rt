@@ -14,7 +14,7 @@ pub enum Figure {
     Number(u64),
 }
 
-// What a line has behind the step.
+// What a line has after the step.
 pub struct Line {
     // the refusal's number, or 0
     pub number: u32,
@@ -72,7 +72,7 @@ pub fn line_of_access(answer: Access) -> Line
     }
 }
 
-// Puts a figure as a field behind another.
+// Puts a figure as a field after another.
 fn put_field(page: &mut [u8], at: usize, figure: Figure) -> usize
     requires { ⌜ at + 21 ≤ length (now page) ⌝ }
     ensures short { λ r. ⌜ r ≤ at + 21 ⌝ }

@@ -1,16 +1,16 @@
-// Printing into a page that is lent: bytes and decimal numbers go behind those that stand there.
+// Printing into a page that is lent: bytes and decimal numbers go after those that stand there.
 ghost use mathlib.Core.Path.{_≡_};
 ghost use Prim.Native.Nat.{_+_, _≤_};
 ghost use lib.ListN.{length, drop};
 ghost use Rattle.page.specs.Decimal.{decimal};
 ghost use Rattle.page.specs.Put.{Put};
 
-// Puts bytes behind the page's first `at`, and gives how many there are now.
+// Puts bytes after the page's first `at`, and gives how many there are now.
 pub fn put_bytes(page: &mut [u8], at: usize, bytes: &[u8]) -> usize
     requires { ⌜ at + length (now bytes) ≤ length (now page) ⌝ }
     ensures { λ r. ⌜ Put (now (page .entry)) at (now (bytes .entry)) (now (page .exit)) r ⌝ }
 {
-    rows::put_bytes(page, at, bytes);
+    row_bytes::put_bytes(page, at, bytes);
     at + bytes.len()
 }
 

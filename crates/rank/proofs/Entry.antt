@@ -1,7 +1,7 @@
 -- The parts of the proof of an entry function that are the same for each: `fn entry(control: &mut C, rest ..) -> X { let t = core(*control, rest ..); *control = t.control; t.answer }`, over a covered core that takes the record by value. None names a function, a contract or the number of parameters.
 --     opened       the borrow of the record is opened: its cell with the machine value written out, and the record's relation in hand. The other parameters, and the tokens, stay one block each
 --     enters       the record and the two blocks are what the core's contract asks at its call
---     answered     the core has returned: its answer, the last values of its parameters, and what it ensures
+--     after-core     the core has returned: its answer, the last values of its parameters, and what it ensures
 --     shut         the borrow is closed at the new record, whose cell has been stored to
 --     looked       the same of a `&C`, which is looked into; `denote.Steps`'s `shuts` shuts it.        leaves-shared    and its end
 --     leaves       what is had at exit is the end of the walk: the blocks, and what the core ensures, are handed on as they stand
@@ -42,10 +42,10 @@ module _ {M : Type 1} {𝓤 : URA M} {H : Heap 𝓤} {A : Atoms 𝓤} {K : Type 
         opens t z (row T) {h = h} b o (λ vs. spelt t (row T) (Is (row T)) (shows 𝓤 H A (row T)) (LL.vals T L) (LL.tells T L) fullShare h vs b o $
         move t (1 ∷ []) $ peeks t (row T) (Is (row T)) (shows 𝓤 H A (row T)) h (LL.vals T L h) (λ was. move t (1 ∷ 0 ∷ []) $ k was))
 
-    pub answered : K → Soaks G → (T : Ended) (c : Clauses 𝓤 T) (y : tripleOf 𝓤 H A (T .signature) (closing 𝓤 H A T c) .Ghost) (v : Val)
+    pub after-core : K → Soaks G → (T : Ended) (c : Clauses 𝓤 T) (y : tripleOf 𝓤 H A (T .signature) (closing 𝓤 H A T c) .Ghost) (v : Val)
         → ((r : Res (T .signature) (y .0 .0)) (ws : Lasts T (y .0 .0) (y .0 .3)) → Seq K W (‵ (typeAt (T .signature .result) (y .0 .0) .own r (v ∷ [])) ∷ raw (alive 𝓤 H A (T .signature) (y .0 .0) (y .0 .1)) ∷ ‵ (lasts T (y .0 .0) (y .0 .3) ws) ∷ raw (c (y .0 .0) (y .0 .3) .ensures (y .1) r (atExit T (y .0 .0) (y .0 .3) ws)) ∷ Γ) G)
         → Seq K W (raw (tripleOf 𝓤 H A (T .signature) (closing 𝓤 H A T c) .post y v) ∷ Γ) G
-    answered t z T c y v k =
+    after-core t z T c y v k =
         use1 W (later (some (λ (r : Res (T .signature) (y .0 .0)). (raw (alive 𝓤 H A (T .signature) (y .0 .0) (y .0 .1)) ⊛ ‵ (typeAt (T .signature .result) (y .0 .0) .own r (v ∷ [])))
         ⊛ some (λ (ws : Lasts T (y .0 .0) (y .0 .3)). ‵ (lasts T (y .0 .0) (y .0 .3) ws) ⊛ raw (c (y .0 .0) (y .0 .3) .ensures (y .1) r (atExit T (y .0 .0) (y .0 .3) ws)))))) (id⊢ 𝓤 _) $ await t z $ pick t (λ r.
         split t $ move t (1 ∷ []) $ pick t (λ ws. split t $ move t (2 ∷ []) $ split t $ move t (1 ∷ []) $ k r ws))

@@ -37,5 +37,5 @@ pub use denote.Triple.Clauses.{atExit}
 pub use denote.Triple.End.{lastsOf}
 pub use denote.Triple.Table.{entered, cited}
 pub use denote.Triple.Walked.{Stays, stay-ref, stay-none-ref, goes-none-ref, walkOf, goes-ref, ends-at, walked, walk-meets}
-pub use Rattle.rank.proofs.Passed.{after, all-passed, all-fit, all-go}
-pub use Rattle.rank.proofs.Entry.{opened, looked, answered, shut, enters, leaves, leaves-shared}
+pub use Rattle.rank.proofs.HandedOn.{after, all-passed, all-fit, all-go}
+pub use Rattle.rank.proofs.Entry.{opened, looked, after-core, shut, enters, leaves, leaves-shared}

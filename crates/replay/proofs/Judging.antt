@@ -1,40 +1,24 @@
 -- What is judged of a trace before its steps are run. Assumes nothing.
 use Prim.Native.Nat.{ℕ, _<_, _≤_}
-use native.Mathlib.Nat.{suc-ne-zero}
-use mathlib.Core.Path.{_≡_, refl, sym, _∙_, ap}
+use mathlib.Core.Path.{_≡_, refl}
 use mathlib.Core.Logic.{_≢_}
-use mathlib.Core.Bool.{Bool, true, false, cond}
+use mathlib.Core.Bool.{true}
 use mathlib.Core.List.{List, []}
-use borrow.Author.Tests.{eq-eqb, ne-eqb, le-leb, lt-leb}
+use borrow.Author.Tests.{ne-eqb, le-leb, lt-leb}
 use Rattle.geometry.specs.declared.Settings.{Settings}
-use Rattle.geometry.specs.Conditions.{rangesHold, limitHolds}
-use Rattle.engine.specs.Ladder.{rung, _▹_}
+use Rattle.geometry.specs.Conditions.{rangesHold}
+use Rattle.engine.specs.Ladder.{settingsNumber}
 use Rattle.engine.specs.Calls.{setUp}
+use Rattle.engine.proofs.Facts.{settings-facts}
 use Rattle.trace_file.specs.Form.{traceWithin}
 use Rattle.trace_file.proofs.Sections.{enough-room}
 use Rattle.lines.specs.Lines.{bare, lineBytes}
 use Rattle.replay.specs.Steps.{storeBytes, lent, stepsFrom, linesFrom}
-use Rattle.replay.specs.Replay.{settingsNumber, refusedLine, played, playedForm, replayed, printedOn}
+use Rattle.replay.specs.Replay.{refusedLine, played, playedForm, replayed, printedOn}
 
 module _ (S : Settings) where
-  pub number-1 : rangesHold S ≡ false → 1 ≡ settingsNumber S
-  unfolding settingsNumber rung _▹_
-  number-1 e = rw e refl
-
-  pub number-2 : rangesHold S ≡ true → limitHolds S ≡ false → 2 ≡ settingsNumber S
-  unfolding settingsNumber rung _▹_
-  number-2 e f = rw (e, f) refl
-
-  pub number-0 : rangesHold S ≡ true → limitHolds S ≡ true → 0 ≡ settingsNumber S
-  unfolding settingsNumber rung _▹_
-  number-0 e f = rw (e, f) refl
-
   pub ranges-accepted : settingsNumber S ≡ 0 → rangesHold S ≡ true
-  ranges-accepted h = go (rangesHold S) refl
-    where
-      go : (b : Bool) → rangesHold S ≡ b → rangesHold S ≡ true
-      go true e = e
-      go false e = absurd (suc-ne-zero 0 (number-1 e ∙ h))
+  ranges-accepted h = settings-facts S h .0
 
   module _ (steps : List ℕ) where
     pub settings-refused : (number : ℕ) → number ≡ settingsNumber S → number ≢ 0 → lineBytes 0 (bare number) ≡ played S steps

@@ -1,16 +1,16 @@
 -- The loop over the steps: what was printed, and the lines that are left, are the whole. Assumes nothing.
-use Prim.Native.Nat.{ℕ, zero, suc, _+_, _*_, _<_, _≤_}
+use Prim.Native.Nat.{ℕ, suc, _+_, _*_, _<_, _≤_}
 use native.Mathlib.Omega.{arith}
 use mathlib.Core.Path.{_≡_, refl, sym, _∙_, ap, subst}
 use mathlib.Core.List.{List, [], _∷_, _++_, append-assoc, append-nil}
 use lib.ListN.{length, getD, take, drop}
-use lib.Seq.{drop-cons, drop-length}
+use lib.Seq.{drop-cons}
 use Rattle.geometry.specs.declared.Settings.{Settings}
 use Rattle.engine.specs.State.{State}
 use Rattle.page.specs.Put.{Put}
 use Rattle.lines.specs.declared.Line.{Line}
 use Rattle.lines.specs.Lines.{lineBytes}
-use Rattle.replay.specs.Steps.{Shown, steppedOf, stepped, stepsFrom, linesFrom}
+use Rattle.replay.specs.Steps.{StepLine, steppedOf, stepped, stepsFrom, linesFrom}
 
 -- after i steps, which printed `at` bytes and left σ
 pub record Running (S : Settings) (start : State) (w : ℕ) (steps : List ℕ) (σ : State) (page : List ℕ) (at i : ℕ) : Type 0 where
@@ -43,7 +43,7 @@ module _ (S : Settings) (w : ℕ) where
             r .whole
             ∙ (ap (λ (xs : List ℕ). take at page ++ linesFrom (suc i) (stepsFrom S σ w xs)) (drop-cons steps i 0 h)
             ∙ (ap (λ (ys : List ℕ). take at page ++ ys) (lines-cons σ (getD steps i 0) (suc i) (drop (suc i) steps))
-            ∙ (ap (λ (s : Shown). take at page ++ (lineBytes (suc i) (s .line) ++ linesFrom (suc (suc i)) (stepsFrom S (s .state) w (drop (suc i) steps)))) (sym e)
+            ∙ (ap (λ (s : StepLine). take at page ++ (lineBytes (suc i) (s .line) ++ linesFrom (suc (suc i)) (stepsFrom S (s .state) w (drop (suc i) steps)))) (sym e)
             ∙ (sym (append-assoc (take at page) (lineBytes (suc i) line) (linesFrom (suc (suc i)) (stepsFrom S after w (drop (suc i) steps))))
             ∙ ap (λ (ys : List ℕ). ys ++ linesFrom (suc (suc i)) (stepsFrom S after w (drop (suc i) steps))) (sym (p .printed))))));
       }

@@ -6,10 +6,13 @@ use mathlib.Core.List.{List, [], _∷_, _++_, map}
 use lib.Dec.{eqb}
 use lib.ListN.{replicate}
 use Rattle.geometry.specs.declared.Settings.{Settings}
+use Rattle.geometry.specs.Entry.{empty}
 use Rattle.engine.specs.State.{State}
-use Rattle.history.specs.Run.{Call, read, write, tick, inspect, Event, step, events}
+use Rattle.history.specs.Run.{Call, read, write, tick, inspect, Answer, Event, step, events}
 use Rattle.lines.specs.declared.Line.{Line}
-use Rattle.lines.specs.Lines.{served, bare, lineBytes}
+use Rattle.lines.specs.declared.Figure.{Figure}
+use Rattle.lines.specs.declared.Figure.the-variants.{Dash, Number}
+use Rattle.lines.specs.Lines.{bare, lineBytes}
 
 -- 'A step is a row to read, or 65535 for a tick.' (w: length of the read buffer, whose bytes are not printed)
 abbrev pub callOf : ℕ → ℕ → Call
@@ -38,28 +41,33 @@ isAccess (write r column bytes) = true
 isAccess tick = false
 isAccess (inspect r) = false
 
+-- '`-` for none'
+abbrev pub figureOf : ℕ → Figure
+figureOf x = cond (eqb x empty) Dash (Number x)
+
 -- the line of a step; '`-` .. for all three on a tick or refusal'
 abbrev pub lineOf : Event → Line
 lineOf e =
-    cond (isAccess (e .call) && eqb (e .answer .number) 0)
-    (served (e .answer .place) (e .answer .moved))
-    (bare (e .answer .number))
+    let a : Answer = e .answer in
+    cond (isAccess (e .call) && eqb (a .number) 0)
+    (record { number = 0; place = Number (a .place); slot = figureOf (a .slot); row = figureOf (a .row) })
+    (bare (a .number))
 
 -- a step as `replay::step` gives it: the memory after it, and its line
-pub record Shown : Type 0 where
+pub record StepLine : Type 0 where
   pub state : State
   pub line : Line
 
-abbrev pub steppedOf : State → Line → Shown
+abbrev pub steppedOf : State → Line → StepLine
 steppedOf σ line = record { state = σ; line = line }
 
 -- the step that is a call
-abbrev pub answered : Settings → State → Call → Shown
-answered S σ c = steppedOf ((step S σ c) .state) (lineOf (record { call = c; answer = (step S σ c) .answer }))
+abbrev pub callStep : Settings → State → Call → StepLine
+callStep S σ c = steppedOf ((step S σ c) .state) (lineOf (record { call = c; answer = (step S σ c) .answer }))
 
 -- the step that is the number x of the trace
-unfoldable pub stepped : Settings → State → ℕ → ℕ → Shown
-stepped S σ w x = answered S σ (callOf w x)
+unfoldable pub stepped : Settings → State → ℕ → ℕ → StepLine
+stepped S σ w x = callStep S σ (callOf w x)
 
 -- the steps after set-up, with their answers: the history of which `history`'s theorems speak
 unfoldable pub stepsFrom : Settings → State → ℕ → List ℕ → List Event

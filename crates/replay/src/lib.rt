@@ -7,7 +7,7 @@ ghost use Rattle.geometry.specs.Conditions.{rangesHold};
 ghost use Rattle.engine.specs.State.{stateOf};
 ghost use Rattle.engine.specs.Calls.{setUp};
 ghost use Rattle.trace_file.specs.Form.{recorded, stepCount};
-ghost use Rattle.replay.specs.Replay.{settingsNumber, refusedLine, played, playedForm, printedOn};
+ghost use Rattle.replay.specs.Replay.{refusedLine, played, playedForm, printedOn};
 ghost use Rattle.replay.specs.Steps.{steppedOf, stepped, stepsFrom, linesFrom, storeBytes, lent};
 use geometry::Control;
 use geometry::Settings;
@@ -49,7 +49,12 @@ fn step(
     rows: &mut [u16],
     counts: &mut [u32],
 ) -> Stepped
-    ensures { λ r. ⌜ steppedOf (stateOf (now (store .exit)) (now (forward .exit)) (now (reverse .exit)) (now (rows .exit)) (now (counts .exit)) (r .control)) (r .line) ≡ stepped s (stateOf (now (store .entry)) (now (forward .entry)) (now (reverse .entry)) (now (rows .entry)) (now (counts .entry)) control) (length (now (buffer .entry))) x ⌝ }
+    ensures { λ r.
+        let before = stateOf (now (store .entry)) (now (forward .entry)) (now (reverse .entry))
+        (now (rows .entry)) (now (counts .entry)) control in
+        let after = stateOf (now (store .exit)) (now (forward .exit)) (now (reverse .exit))
+        (now (rows .exit)) (now (counts .exit)) (r .control) in
+        ⌜ steppedOf after (r .line) ≡ stepped s before (length (now (buffer .entry))) x ⌝ }
 {
     if x == TICK {
         let ticked = calls::tick(control, s, store, forward, reverse, rows, counts);
@@ -68,7 +73,7 @@ fn step(
     }
 }
 
-// Every step in turn, its line behind the last; gives how many bytes were printed.
+// Every step in turn, its line after the last; gives how many bytes were printed.
 fn run(
     control: Control,
     s: Settings,
@@ -83,7 +88,11 @@ fn run(
 ) -> usize
     requires { ⌜ 105 * length (now steps) ≤ length (now page) ⌝ }
     ensures short { λ r. ⌜ r ≤ length (now (page .entry)) ⌝ }
-    ensures printed { λ r. ⌜ take r (now (page .exit)) ≡ linesFrom 1 (stepsFrom s (stateOf (now (store .entry)) (now (forward .entry)) (now (reverse .entry)) (now (rows .entry)) (now (counts .entry)) control) (length (now (buffer .entry))) (now (steps .entry))) ⌝ }
+    ensures printed { λ r.
+        let before = stateOf (now (store .entry)) (now (forward .entry)) (now (reverse .entry))
+        (now (rows .entry)) (now (counts .entry)) control in
+        let made = stepsFrom s before (length (now (buffer .entry))) (now (steps .entry)) in
+        ⌜ take r (now (page .exit)) ≡ linesFrom 1 made ⌝ }
 {
     let mut last = control;
     let mut at: usize = 0;
@@ -113,7 +122,11 @@ fn start(
 ) -> usize
     requires { ⌜ 105 * length (now steps) ≤ length (now page) ⌝ }
     ensures short { λ r. ⌜ r ≤ length (now (page .entry)) ⌝ }
-    ensures printed { λ r. ⌜ take r (now (page .exit)) ≡ linesFrom 1 (stepsFrom s ((setUp s (stateOf (now (store .entry)) (now (forward .entry)) (now (reverse .entry)) (now (rows .entry)) (now (counts .entry)) (record { head = 0; passed = 0; spill = 0; acts = 0 }))) .state) (length (now (buffer .entry))) (now (steps .entry))) ⌝ }
+    ensures printed { λ r.
+        let before = stateOf (now (store .entry)) (now (forward .entry)) (now (reverse .entry))
+        (now (rows .entry)) (now (counts .entry)) (record { head = 0; passed = 0; spill = 0; acts = 0 }) in
+        let made = stepsFrom s ((setUp s before) .state) (length (now (buffer .entry))) (now (steps .entry)) in
+        ⌜ take r (now (page .exit)) ≡ linesFrom 1 made ⌝ }
 {
     let new = calls::set_up(BLANK, s, store, forward, reverse, rows, counts);
     let control = new.control;
@@ -170,9 +183,12 @@ fn counts_buffer() -> [u32; 4096]
 
 // Every step after set-up on a new store of `size` bytes.
 fn on_new_store(s: Settings, size: usize, steps: &[u32], page: &mut [u8]) -> usize
-    requires { ⌜ (rangesHold s ≡ true) × (size ≡ storeBytes s) × (size ≤ 32768) × (105 * length (now steps) ≤ length (now page)) ⌝ }
+    requires { ⌜
+        (rangesHold s ≡ true) × (size ≡ storeBytes s) × (size ≤ 32768) × (105 * length (now steps) ≤ length (now page)) ⌝ }
     ensures short { λ r. ⌜ r ≤ length (now (page .entry)) ⌝ }
-    ensures printed { λ r. ⌜ take r (now (page .exit)) ≡ linesFrom 1 (stepsFrom s ((setUp s (lent s)) .state) (s .w) (now (steps .entry))) ⌝ }
+    ensures printed { λ r.
+        let made = stepsFrom s ((setUp s (lent s)) .state) (s .w) (now (steps .entry)) in
+        ⌜ take r (now (page .exit)) ≡ linesFrom 1 made ⌝ }
 {
     let mut buffer = row_buffer();
     let mut store = store_buffer();
@@ -197,19 +213,6 @@ fn on_new_store(s: Settings, size: usize, steps: &[u32], page: &mut [u8]) -> usi
     )
 }
 
-// 1 or 2 for settings that are refused, or 0.
-fn settings_number(s: Settings) -> u32
-    ensures { λ r. ⌜ r ≡ settingsNumber s ⌝ }
-{
-    if !geometry::ranges_hold(s) {
-        return 1;
-    }
-    if !geometry::limit_holds(s) {
-        return 2;
-    }
-    0
-}
-
 // Puts the line for a trace that is refused.
 fn put_refused(page: &mut [u8]) -> usize
     requires { ⌜ 14 ≤ length (now page) ⌝ }
@@ -225,7 +228,7 @@ fn play(s: Settings, steps: &[u32], page: &mut [u8]) -> usize
     ensures short { λ r. ⌜ r ≤ length (now (page .entry)) ⌝ }
     ensures printed { λ r. ⌜ take r (now (page .exit)) ≡ played s (now (steps .entry)) ⌝ }
 {
-    let number = settings_number(s);
+    let number = ladder::settings_number(s);
     if number != 0 {
         return lines::put_line(page, 0, 0, lines::bare(number));
     }

@@ -10,14 +10,14 @@ use Rattle.sizing.specs.declared.Figure.{Figure}
 use Rattle.sizing.specs.declared.Figure.the-variants.{Refused, Value}
 
 -- 01's number for an answer: 'settings | 1 | one is outside its range'
-abbrev pub numberOf : Figure → ℕ
-numberOf Refused = 1
-numberOf (Value v) = 0
+abbrev pub sumNumber : Figure → ℕ
+sumNumber Refused = 1
+sumNumber (Value v) = 0
 
 -- 01's figure in an answer: 'Beside the number a refusal holds nothing: each figure in it is 0'
-abbrev pub valueOf : Figure → ℕ
-valueOf Refused = 0
-valueOf (Value v) = v
+abbrev pub sumValue : Figure → ℕ
+sumValue Refused = 0
+sumValue (Value v) = v
 
 -- 'tREFW 1 to 1,000,000,000; tRC 1 to 10,000', which both sums take
 abbrev pub windowInRange : ℕ → Bool

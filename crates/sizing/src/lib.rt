@@ -1,7 +1,8 @@
 // Document 01, 'Sizing': the least quarantine size, the most activations in a refresh window, and a table of
 // six sizes. Times are in whole nanoseconds. Every function answers for any argument.
 ghost use mathlib.Core.Path.{_≡_};
-ghost use Rattle.sizing.specs.Sums.{sizeRangesHold, leastSize, activationRangesHold, mostActivations, numberOf, valueOf};
+ghost use Rattle.sizing.specs.Sums.{sizeRangesHold, leastSize, activationRangesHold, mostActivations};
+ghost use Rattle.sizing.specs.Sums.{sumNumber, sumValue};
 ghost use Rattle.sizing.specs.Table.{listedAt};
 
 // What the least quarantine size depends on.
@@ -39,7 +40,7 @@ pub enum Figure {
 
 // The refusal number of an answer.
 pub fn number(f: Figure) -> u32
-    ensures { λ r. ⌜ r ≡ numberOf f ⌝ }
+    ensures { λ r. ⌜ r ≡ sumNumber f ⌝ }
 {
     match f {
         Figure::Refused => 1,
@@ -49,7 +50,7 @@ pub fn number(f: Figure) -> u32
 
 // The figure of an answer, 0 in a refusal.
 pub fn value(f: Figure) -> u64
-    ensures { λ r. ⌜ r ≡ valueOf f ⌝ }
+    ensures { λ r. ⌜ r ≡ sumValue f ⌝ }
 {
     match f {
         Figure::Refused => 0,

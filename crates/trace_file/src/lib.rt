@@ -24,7 +24,8 @@ pub enum Form {
 
 // Reads the decimal numbers of a text into the lent list. A text with more numbers than the list holds is unreadable too.
 pub fn read_numbers(text: &[u8], list: &mut [u32]) -> Numbers
-    ensures numbers { λ r. ⌜ listed r (now (list .exit)) ≡ numbersWithin (length (now (list .entry))) (now (text .entry)) ⌝ }
+    ensures numbers { λ r.
+        ⌜ listed r (now (list .exit)) ≡ numbersWithin (length (now (list .entry))) (now (text .entry)) ⌝ }
     ensures within { λ r. ⌜ counted r ≤ length (now (list .entry)) ⌝ }
 {
     let mut s = Scan::START;
@@ -75,7 +76,8 @@ fn sections_of(numbers: &[u32], count: usize) -> Form
 
 // The trace that a file's bytes are. The lent list takes the numbers: two counts, six settings and at most 4,096 steps.
 pub fn parse(text: &[u8], numbers: &mut [u32]) -> Form
-    ensures said { λ r. ⌜ recorded r (now (numbers .exit)) ≡ traceWithin (length (now (numbers .entry))) (now (text .entry)) ⌝ }
+    ensures said { λ r.
+        ⌜ recorded r (now (numbers .exit)) ≡ traceWithin (length (now (numbers .entry))) (now (text .entry)) ⌝ }
     ensures within { λ r. ⌜ stepCount r ≤ 4096 ⌝ }
 {
     if numbers.len() < MOST_NUMBERS {

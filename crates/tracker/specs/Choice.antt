@@ -25,8 +25,10 @@ estimateBy (Spill spill) = 0
 
 -- what following a way leaves
 abbrev pub followed : Choice → ℕ → List ℕ → List ℕ → ℕ → Tracked
-followed (Raise i count) p rows counts spill = record { rows = rows; counts = set counts i count; spill = spill; estimate = count }
-followed (Take i count) p rows counts spill = record { rows = set rows i p; counts = set counts i count; spill = spill; estimate = count }
+followed (Raise i count) p rows counts spill =
+    record { rows = rows; counts = set counts i count; spill = spill; estimate = count }
+followed (Take i count) p rows counts spill =
+    record { rows = set rows i p; counts = set counts i count; spill = spill; estimate = count }
 followed (Spill next) p rows counts spill = record { rows = rows; counts = counts; spill = next; estimate = 0 }
 
 -- the entry that a way changes is one of k

@@ -7,7 +7,7 @@ ghost use Prim.Native.Nat.{_+_, _<_, _≤_};
 ghost use lib.Dec.{ltb, eqb};
 ghost use lib.ListN.{length, take, drop, replicate};
 ghost use Rattle.geometry.specs.Entry.{empty};
-ghost use Rattle.tracker.specs.Scan.{lowest, indexOf, some};
+ghost use Rattle.tracker.specs.Scan.{indexOf, some};
 ghost use Rattle.tracker.specs.Choice.{choiceOf, estimateBy, followed, Within, trackedOf};
 
 // How step 2 goes. With an entry stands its new count, which is the estimate.
@@ -35,10 +35,12 @@ fn block_names(rows: &[u16], at: usize, size: usize, place: u16) -> bool
 }
 
 // From `from` on: the start of the first block of that size with an entry that names the place, or of what is left
-// behind the last whole block.
+// after the last whole block.
 fn skip_rows(rows: &[u16], from: usize, size: usize, place: u16) -> usize
     requires { ⌜ (from ≤ length (now rows)) × (1 ≤ size) ⌝ }
-    ensures { λ r. ⌜ (r ≤ length (now (rows .entry))) × (from + indexOf place (drop from (now (rows .entry))) ≡ r + indexOf place (drop r (now (rows .entry)))) ⌝ }
+    ensures { λ r.
+        let all = now (rows .entry) in
+        ⌜ (r ≤ length all) × (from + indexOf place (drop from all) ≡ r + indexOf place (drop r all)) ⌝ }
 {
     let mut at = from;
     while size <= rows.len() - at {
@@ -82,7 +84,9 @@ fn block_counts(counts: &[u32], at: usize, size: usize, value: u32) -> bool
 // As `skip_rows`, over the counts.
 fn skip_counts(counts: &[u32], from: usize, size: usize, value: u32) -> usize
     requires { ⌜ (from ≤ length (now counts)) × (1 ≤ size) ⌝ }
-    ensures { λ r. ⌜ (r ≤ length (now (counts .entry))) × (from + indexOf value (drop from (now (counts .entry))) ≡ r + indexOf value (drop r (now (counts .entry)))) ⌝ }
+    ensures { λ r.
+        let all = now (counts .entry) in
+        ⌜ (r ≤ length all) × (from + indexOf value (drop from all) ≡ r + indexOf value (drop r all)) ⌝ }
 {
     let mut at = from;
     while size <= counts.len() - at {
@@ -124,7 +128,9 @@ pub fn any_above(counts: &[u32], limit: u32) -> bool
 
 // The way that step 2 goes. Nothing is written.
 pub fn choose(place: u16, rows: &[u16], counts: &[u32], spill: u32) -> Choice
-    requires { ⌜ (length (now rows) ≡ length (now counts)) × (some (λ count. ltb 4294967294 count) (now counts) ≡ false) × (spill < 4294967295) ⌝ }
+    requires { ⌜
+        (length (now rows) ≡ length (now counts))
+        × (some (λ count. ltb 4294967294 count) (now counts) ≡ false) × (spill < 4294967295) ⌝ }
     ensures { λ r. ⌜ r ≡ choiceOf place (now (rows .entry)) (now (counts .entry)) spill ⌝ }
 {
     let i = index_of_row(rows, place);
@@ -152,7 +158,9 @@ pub fn estimate(choice: Choice) -> u32
 // Follows a way in the tables, and gives the new `spill`.
 pub fn follow(choice: Choice, place: u16, rows: &mut [u16], counts: &mut [u32], spill: u32) -> u32
     requires { ⌜ (Within (length (now rows)) choice) × (Within (length (now counts)) choice) ⌝ }
-    ensures { λ r. ⌜ trackedOf (now (rows .exit)) (now (counts .exit)) r (estimateBy choice) ≡ followed choice place (now (rows .entry)) (now (counts .entry)) spill ⌝ }
+    ensures { λ r.
+        let after = trackedOf (now (rows .exit)) (now (counts .exit)) r (estimateBy choice) in
+        ⌜ after ≡ followed choice place (now (rows .entry)) (now (counts .entry)) spill ⌝ }
 {
     match choice {
         Choice::Raise(i, count) => {

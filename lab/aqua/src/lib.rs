@@ -59,7 +59,7 @@ extern "C" {
         rows: *const u16, rows_length: usize, counts: *const u32, counts_length: usize,
     ) -> u32;
     fn aqua_inspect_span(
-        control: Control, settings: Settings, row: u32,
+        control: *const Control, settings: Settings, row: u32,
         store: *const u8, store_length: usize,
         forward: *const u16, forward_length: usize, reverse: *const u16, reverse_length: usize,
         rows: *const u16, rows_length: usize, counts: *const u32, counts_length: usize,
@@ -155,7 +155,7 @@ impl Lent<'_> {
                 self.rows.as_ptr(), self.rows.len(), self.counts.as_ptr(), self.counts.len(),
             );
             let span = aqua_inspect_span(
-                *self.control, *s, row, self.store.as_ptr(), self.store.len(),
+                &*self.control, *s, row, self.store.as_ptr(), self.store.len(),
                 self.forward.as_ptr(), self.forward.len(), self.reverse.as_ptr(), self.reverse.len(),
                 self.rows.as_ptr(), self.rows.len(), self.counts.as_ptr(), self.counts.len(),
             );

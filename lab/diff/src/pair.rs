@@ -120,9 +120,8 @@ impl Pair {
             Call::SetUp => (lent.set_up(s), plain(self.model.set_up(s))),
             Call::Tick => (lent.tick(s), plain(self.model.tick(s))),
             Call::Inspect { row } => {
-                let part = self.model.inspect(s, *row);
-                let (start, length) = part.unwrap_or((0, 0));
-                let (bare, refusal) = plain(part.map(|_| ()));
+                let (bare, refusal) = plain(self.model.inspect(s, *row).map(|_| ()));
+                let (start, length) = self.model.inspect_span(s, *row);
                 (lent.inspect(s, *row), (Answer { start, length, ..bare }, refusal))
             }
             Call::Read { row, length } => {

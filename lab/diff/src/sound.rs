@@ -45,13 +45,13 @@ impl Watcher {
                 Call::SetUp | Call::Tick => (None, None),
             };
             if let Some(row) = row {
-                let place = self.tally.place(row).ok_or("a row outside was accepted")? as u64;
+                let start = self.tally.place(row).ok_or("a row outside was accepted")? * w;
                 let answered = match call {
-                    Call::Inspect { .. } => (answer.start / w) as u64,
-                    _ => answer.place,
+                    Call::Inspect { .. } => answer.start,
+                    _ => answer.place as usize * w,
                 };
-                if place != answered {
-                    return Err(format!("{call:?}: place {answered} answered, the tally has {place}, {s:?}"));
+                if start != answered {
+                    return Err(format!("{call:?}: from byte {answered} on answered, the tally has {start}, {s:?}"));
                 }
                 if part.is_some_and(|part| part != &self.shadow[row as usize * w..][..w]) {
                     return Err(format!("{call:?}: the bytes are not those last written, {s:?}"));

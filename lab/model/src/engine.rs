@@ -328,14 +328,24 @@ impl Model {
         Ok(())
     }
 
-    /// The part of the store that holds the row: where it starts, and its length.
-    pub fn inspect(&self, s: &Settings, row: u32) -> Result<(usize, usize), Refusal> {
+    /// Inspect, by its first call; gives the row's place too.
+    pub fn inspect(&self, s: &Settings, row: u32) -> Result<usize, Refusal> {
         self.judge_settings_and_lengths(s)?;
         self.judge_control(s)?;
         if row >= s.n {
             return Err(Refusal::Row);
         }
-        let physical = self.judge_row_pointers(s, row as usize)?.map_or(row as usize, |slot| s.n as usize + slot);
-        Ok((physical * s.w as usize, s.w as usize))
+        Ok(self.judge_row_pointers(s, row as usize)?.map_or(row as usize, |slot| s.n as usize + slot))
+    }
+
+    /// Inspect, by its second call: start and length of the part of the store that holds the row, 0 and 0 in a refusal.
+    pub fn inspect_span(&self, s: &Settings, row: u32) -> (usize, usize) {
+        let w = s.w as usize;
+        match self.inspect(s, row) {
+            Ok(_) if self.planted(Fault::SpanOfTheHome) => (row as usize * w, w),
+            Ok(place) => (place * w, w),
+            Err(_) if self.planted(Fault::RefusedSpanHasLength) => (0, w),
+            Err(_) => (0, 0),
+        }
     }
 }

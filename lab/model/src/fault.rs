@@ -30,9 +30,11 @@ pub enum Fault {
     RefusedReadFillsBuffer,
     RefusedAccessCounts,
     SetUpClearsStore,
+    SpanOfTheHome,
+    RefusedSpanHasLength,
 }
 
-pub const FAULTS: [Fault; 26] = [
+pub const FAULTS: [Fault; 28] = [
     Fault::EntryStartsAtOne,
     Fault::OldReverseKept,
     Fault::SentHomeForwardKept,
@@ -59,4 +61,6 @@ pub const FAULTS: [Fault; 26] = [
     Fault::RefusedReadFillsBuffer,
     Fault::RefusedAccessCounts,
     Fault::SetUpClearsStore,
+    Fault::SpanOfTheHome,
+    Fault::RefusedSpanHasLength,
 ];

@@ -1,6 +1,7 @@
 -- `calls::inspect_part`: nothing where the number is not 0, else the row's part. Assumes nothing.
 use Rattle.engine.specs.State.{stateOf}
-use Rattle.calls.proofs.Serves.{part-none, row-located, part-inside, part-row}
+use Rattle.engine.proofs.Parts.{row-located, part-inside}
+use Rattle.calls.proofs.Serves.{part-none, part-row}
 use borrow.Author.Needs.{needs}
 use Rattle.calls.proofs.inspect_part.Statement.{statement}
 use Rattle.calls.proofs.inspect_part.Tie as tie

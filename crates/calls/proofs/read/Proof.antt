@@ -1,4 +1,4 @@
--- `calls::read`: the rungs, the verdict, the bytes, and what settling leaves. Assumes nothing.
+-- `calls::read`: the refusals, the verdict, the bytes, and what settling leaves. Assumes nothing.
 use Prim.Native.Nat.{ℕ}
 use mathlib.Core.Path.{_≡_, refl, sym, ap, _∙_}
 use mathlib.Core.Bool.{Bool}
@@ -7,15 +7,15 @@ use Rattle.geometry.specs.declared.Settings.{Settings}
 use Rattle.geometry.specs.declared.Control.{Control}
 use Rattle.engine.specs.State.{State, stateOf}
 use Rattle.engine.specs.Ladder.{tickNumber}
-use Rattle.ladder.proofs.Stages.{verdictOf, verdict-early, verdict-row}
+use Rattle.ladder.proofs.Stages.{judgementOf, refused-early, refused-row, tables-long}
 use Rattle.calls.proofs.Decides.{Decided, row-fits, countable, relocatable, settled-is, stayed-is}
 use Rattle.calls.proofs.Serves.{Granted, decided, buffer-long, place-inside, read-refused, read-served}
-use Rattle.calls.proofs.Passes.{tables-long, Past, locatable, choosable, decidable, place-small, verdict-is, granted}
+use Rattle.calls.proofs.Passes.{Past, locatable, choosable, decidable, place-small, verdict-is, granted}
 use borrow.Author.Needs.{needs}
 use Rattle.calls.proofs.read.Statement.{statement}
 use Rattle.calls.proofs.read.Tie as tie
 
--- ---- past the rungs 1 to 4
+-- ---- past 1 to 4
 module _ (p : tie.Else1) where
   abbrev settings : Settings
   settings = p .before .before .before .before .before .before .before .before .before .before .before .before .before .args .s
@@ -31,25 +31,25 @@ module _ (p : tie.Else1) where
   tick-0 : tickNumber settings entry ≡ 0
   tick-0 = sym (p .before .tick-number .ensures) ∙ p .if1 .left
 
--- ---- past the rungs 1 to 8
+-- ---- past 1 to 7
 module _ (p : tie.Else2) where
   abbrev first : tie.Else1
   first = p .before .before .before .before .before
 
-  abbrev span : Bool
-  span = p .before .before .before .before .read-span .result
+  abbrev off : Bool
+  off = p .before .before .before .before .read-off .result
 
-  past : Past (settings first) (entry first) (row first) span
+  past : Past (settings first) (entry first) (row first) off
   past = record { tick = tick-0 first; row = sym (p .before .row-number .ensures) ∙ p .if2 .left }
 
 -- ---- once it is decided
 module _ (p : tie.After-decide) where
-  verdict : let q = p .before .before .before .before .before .before .before .before .before .before in p .decide .result ≡ verdictOf (settings (first q)) (entry (first q)) (row (first q)) (span q)
+  verdict : let q = p .before .before .before .before .before .before .before .before .before .before in p .decide .result ≡ judgementOf (settings (first q)) (entry (first q)) (row (first q)) (off q)
   verdict = verdict-is (past (p .before .before .before .before .before .before .before .before .before .before)) (p .before .before .before .before .before .before .before .before .place .ensures) (p .before .before .before .before .choose .ensures) (p .before .before .before .estimate .ensures) (p .decide .ensures)
 
 -- ---- once it is decided to serve it
 module _ (p : tie.After-known-told2) where
-  grant : let q = p .before .before .before .before .before .before .before .before .before .before .before .before .before in Granted (settings (first q)) (entry (first q)) (row (first q)) (span q) (p .before .before .before .before .before .before .before .before .before .before .before .place .result) (p .before .before .before .before .before .before .before .choose .result) (p .before .verdict2 .given .0 .0)
+  grant : let q = p .before .before .before .before .before .before .before .before .before .before .before .before .before in Granted (settings (first q)) (entry (first q)) (row (first q)) (off q) (p .before .before .before .before .before .before .before .before .before .before .before .place .result) (p .before .before .before .before .before .before .before .choose .result) (p .before .verdict2 .given .0 .0)
   grant = granted (past (p .before .before .before .before .before .before .before .before .before .before .before .before .before)) (p .before .before .before .before .before .before .before .before .before .before .before .place .ensures) (p .before .before .before .before .before .before .before .choose .ensures) (p .before .before .before .before .before .before .estimate .ensures) (p .before .before .before .decide .ensures) (p .before .verdict2 .given .1)
 
   served : let q = p .before .before .before .before .before .before .before .before .before .before .before .before .before in Decided (settings (first q)) (entry (first q)) (row (first q)) (p .before .before .before .before .before .before .before .before .before .before .before .place .result) (p .before .before .before .before .before .before .before .choose .result) (p .before .verdict2 .given .0 .0)
@@ -80,15 +80,15 @@ returns : tie.Need-returns
 returns c =
     let a = c .before .before .before .before .before .before .before .before .before .before .before .before .before .before .args in
     let σ = stateOf (a .store .now) (a .forward .now) (a .reverse .now) (a .rows .now) (a .counts .now) (a .control) in
-    read-refused (a .s) σ (a .row) _ (a .buffer .now) refl (c .refused .ensures) (verdict-early (a .s) σ (a .row) _ _ (c .before .before .tick-number .ensures) (c .before .if1 .taken))
+    read-refused (a .s) σ (a .row) _ (a .buffer .now) refl (c .refused .ensures) (refused-early (a .s) σ (a .row) _ _ (c .before .before .tick-number .ensures) (c .before .if1 .taken))
 
-read-span-requires : tie.Need-read-span-requires
-read-span-requires c κs = search needs
+read-off-requires : tie.Need-read-off-requires
+read-off-requires c κs = search needs
 
 row-number-requires : tie.Need-row-number-requires
 row-number-requires c κs =
     let q = c .before .before .before in
-    tables-long (settings q) (entry q) (tick-0 q)
+    tables-long (settings q) (entry q) (q .before .tick-number .ensures) (q .if1 .left)
 
 refused-requires-2 : tie.Need-refused-requires-2
 refused-requires-2 c κs = search needs
@@ -112,7 +112,7 @@ returns-2 : tie.Need-returns-2
 returns-2 c =
     let a = c .before .before .before .before .before .before .before .before .before .before .before .before .before .before .before .before .before .before .before .args in
     let q = c .before .before .before .before .before .before in
-    read-refused (settings q) (entry q) (row q) _ (a .buffer .now) (c .before .before .before .before .before .read-span .ensures) (c .refused2 .ensures) (verdict-row (settings q) (entry q) (row q) _ (tick-0 q) _ (c .before .before .row-number .ensures) (c .before .if2 .taken))
+    read-refused (settings q) (entry q) (row q) _ (a .buffer .now) (c .before .before .before .before .before .read-off .ensures) (c .refused2 .ensures) (refused-row (settings q) (entry q) (row q) _ (tick-0 q) _ (c .before .before .row-number .ensures) (c .before .if2 .taken))
 
 place-requires : tie.Need-place-requires
 place-requires c κs = locatable (past (c .before))
@@ -145,7 +145,7 @@ read-row-requires : tie.Need-read-row-requires
 read-row-requires c κs =
     let a = c .before .before .before .before .before .before .before .before .before .before .before .before .before .before .before .before .before .before .before .before .before .before .before .before .before .before .before .before .before .before .before .before .before .before .args in
     let g = grant (c .before .before .before) in
-    (buffer-long (a .buffer .now) (c .before .before .before .before .before .before .before .before .before .before .before .before .before .before .before .before .before .before .before .before .read-span .ensures) g, place-inside g)
+    (buffer-long (a .buffer .now) (c .before .before .before .before .before .before .before .before .before .before .before .before .before .before .before .before .before .before .before .before .read-off .ensures) g, place-inside g)
 
 count-requires : tie.Need-count-requires
 count-requires c κs = countable (served (c .before .before .before .before .before .before .before .before))
@@ -153,8 +153,8 @@ count-requires c κs = countable (served (c .before .before .before .before .bef
 enum-told : tie.Need-enum-told
 enum-told c = search needs
 
-accepted-requires : tie.Need-accepted-requires
-accepted-requires c κs = search needs
+done-requires : tie.Need-done-requires
+done-requires c κs = search needs
 
 same-length-11 : tie.Need-same-length-11
 same-length-11 c = search needs
@@ -178,7 +178,7 @@ returns-3 : tie.Need-returns-3
 returns-3 c =
     let a = c .before .before .before .before .before .before .before .before .before .before .before .before .before .before .before .before .before .before .before .before .before .before .before .before .before .before .before .before .before .before .before .before .before .before .before .before .before .before .before .before .before .before .before .before .before .before .before .args in
     let counted = c .before .before .before .before .before .before .before .count in
-    read-served (a .buffer .now) (c .before .before .before .before .before .before .before .before .before .before .before .before .before .before .before .before .before .before .before .before .before .before .before .before .before .before .before .before .before .before .before .before .before .read-span .ensures) (grant (c .before .before .before .before .before .before .before .before .before .before .before .before .before .before .before .before)) (c .before .before .before .before .before .before .before .before .before .before .before .before .read-row .ensures) (c .accepted .ensures)
+    read-served (a .buffer .now) (c .before .before .before .before .before .before .before .before .before .before .before .before .before .before .before .before .before .before .before .before .before .before .before .before .before .before .before .before .before .before .before .before .before .read-off .ensures) (grant (c .before .before .before .before .before .before .before .before .before .before .before .before .before .before .before .before)) (c .before .before .before .before .before .before .before .before .before .before .before .before .read-row .ensures) (c .done .ensures)
     (stayed-is (served (c .before .before .before .before .before .before .before .before .before .before .before .before .before .before .before .before)) _ _ (counted .result) (counted .ensures .0) (counted .ensures .1) (c .before .enum-told .given .1))
 
 cast-t60 : tie.Need-cast-t60
@@ -187,8 +187,8 @@ cast-t60 c = omega (arith, row-fits (served (c .before .before .before .before .
 relocate-requires : tie.Need-relocate-requires
 relocate-requires c κs = relocatable (served (c .before .before .before .before .before .before .before .before .before .before .before .before .before .before .before .before .before)) _ (ap (λ (x : Control). x .passed) (c .before .before .before .before .before .before .before .before .count .ensures .1))
 
-accepted-requires-2 : tie.Need-accepted-requires-2
-accepted-requires-2 c κs = search needs
+done-requires-2 : tie.Need-done-requires-2
+done-requires-2 c κs = search needs
 
 same-length-17 : tie.Need-same-length-17
 same-length-17 c = search needs
@@ -209,7 +209,7 @@ returns-4 : tie.Need-returns-4
 returns-4 c =
     let a = c .before .before .before .before .before .before .before .before .before .before .before .before .before .before .before .before .before .before .before .before .before .before .before .before .before .before .before .before .before .before .before .before .args in
     let q = c .before .before .before .before .before .before .before .before .before .before .before .before .before .before .before .before .before .before .before in
-    read-refused (settings q) (entry q) (row q) _ (a .buffer .now) (c .before .before .before .before .before .before .before .before .before .before .before .before .before .before .before .before .before .before .read-span .ensures) (c .refused3 .ensures) (sym (c .before .before .verdict .given .1) ∙ verdict (c .before .before .before .before))
+    read-refused (settings q) (entry q) (row q) _ (a .buffer .now) (c .before .before .before .before .before .before .before .before .before .before .before .before .before .before .before .before .before .before .read-off .ensures) (c .refused3 .ensures) (sym (c .before .before .verdict .given .1) ∙ verdict (c .before .before .before .before))
 
 same-length-22 : tie.Need-same-length-22
 same-length-22 c = search needs
@@ -234,7 +234,7 @@ returns-5 c =
     let a = c .before .before .before .before .before .before .before .before .before .before .before .before .before .before .before .before .before .before .before .before .before .before .before .before .before .before .before .before .before .before .before .before .before .before .before .before .before .before .before .before .before .before .before .before .before .before .before .before .before .before .before .before .before .before .before .before .args in
     let counted = c .before .before .before .before .before .before .before .before .before .before .before .before .before .before .before .before .count in
     let gone = c .before .before .before .before .before .before .before .relocate in
-    read-served (a .buffer .now) (c .before .before .before .before .before .before .before .before .before .before .before .before .before .before .before .before .before .before .before .before .before .before .before .before .before .before .before .before .before .before .before .before .before .before .before .before .before .before .before .before .before .before .read-span .ensures) (grant (c .before .before .before .before .before .before .before .before .before .before .before .before .before .before .before .before .before .before .before .before .before .before .before .before .before)) (c .before .before .before .before .before .before .before .before .before .before .before .before .before .before .before .before .before .before .before .before .before .read-row .ensures) (c .accepted2 .ensures)
+    read-served (a .buffer .now) (c .before .before .before .before .before .before .before .before .before .before .before .before .before .before .before .before .before .before .before .before .before .before .before .before .before .before .before .before .before .before .before .before .before .before .before .before .before .before .before .before .before .before .read-off .ensures) (grant (c .before .before .before .before .before .before .before .before .before .before .before .before .before .before .before .before .before .before .before .before .before .before .before .before .before)) (c .before .before .before .before .before .before .before .before .before .before .before .before .before .before .before .before .before .before .before .before .before .read-row .ensures) (c .done2 .ensures)
     (settled-is (served (c .before .before .before .before .before .before .before .before .before .before .before .before .before .before .before .before .before .before .before .before .before .before .before .before .before)) _ _ (counted .result) (counted .ensures .0) (counted .ensures .1) _ _ _ (gone .result) (gone .ensures))
 
 pub read-spec : {M : Type 1} → statement M
@@ -249,7 +249,7 @@ read-spec =
     same-length-4
     same-length-5
     returns
-    read-span-requires
+    read-off-requires
     row-number-requires
     refused-requires-2
     same-length-6
@@ -270,7 +270,7 @@ read-spec =
     read-row-requires
     count-requires
     enum-told
-    accepted-requires
+    done-requires
     same-length-11
     same-length-12
     same-length-13
@@ -280,7 +280,7 @@ read-spec =
     returns-3
     cast-t60
     relocate-requires
-    accepted-requires-2
+    done-requires-2
     same-length-17
     same-length-18
     same-length-19

@@ -1,8 +1,6 @@
 -- `quarantine`: 9, then the destination's pointers, then the move. Assumes nothing.
-use Prim.Native.Nat.{ℕ}
 use mathlib.Core.Path.{sym, ap, _∙_}
 use native.Mathlib.Omega.{arith}
-use lib.ListN.{getD}
 use Rattle.geometry.proofs.Tests.{told-not, told-yes}
 use Rattle.geometry.specs.declared.VisibleRow.{VisibleRow}
 use Rattle.geometry.specs.Numbering.{slot}
@@ -10,7 +8,6 @@ use Rattle.geometry.specs.Entry.{empty}
 use Rattle.tracker.proofs.Sums.{getD-any}
 use Rattle.engine.specs.declared.Move.the-variants.{OverSlot}
 use Rattle.ladder.specs.declared.Verdict.the-variants.{Go}
-use Rattle.ladder.specs.Stages.{quarantineOf}
 use Rattle.engine.proofs.Moves.{rise-from-most, destination-from-in}
 use Rattle.ladder.proofs.Stages.{no-room, unsound, sound-to, sound-over}
 use borrow.Author.Needs.{needs}
@@ -28,7 +25,7 @@ add-if1 c =
 returns : tie.Need-returns
 returns c =
     let a = c .before .before .before .before .before .before .args in
-    no-room (a .s) (a .control) (a .entry .0) (a .forward .now) (a .reverse .now) _
+    no-room (a .s) (a .control) (a .forward .now) (a .reverse .now) (a .entry .0)
     (omega (arith, c .if1 .taken, c .before .before .before .rise .ensures))
 
 destination-requires : tie.Need-destination-requires
@@ -51,13 +48,11 @@ points-back-requires c κs = search needs
 returns-2 : tie.Need-returns-2
 returns-2 c =
     let a = c .before .before .before .before .before .before .before .before .before .before .args in
-    unsound (a .s) (a .control) (a .entry .0) (a .forward .now) (a .reverse .now) (c .before .before .before .destination .result)
-    (omega (arith, c .before .before .before .before .if1 .left, c .before .before .before .before .before .before .before .rise .ensures))
-    (getD (a .reverse .now) (c .before .before .before .destination .result) 0)
-    (getD-any (a .reverse .now) (c .before .before .before .destination .result) 0 empty (omega (arith, c .before .before .before .destination .ensures, destination-from-in (a .s) (a .control .head) (a .entry .0) (omega arith))))
+    let d = c .before .before .before .destination in
+    unsound (a .s) (a .control) (a .forward .now) (a .reverse .now) (a .entry .0)
+    (omega (arith, c .before .before .before .before .if1 .left, c .before .before .before .before .before .before .before .rise .ensures)) (d .ensures)
+    (getD-any (a .reverse .now) (d .result) 0 empty (omega (arith, d .ensures, destination-from-in (a .s) (a .control .head) (a .entry .0) (omega arith))))
     (told-not (c .before .points-back .ensures) (c .if2 .taken))
-    ∙ ap (λ (d : ℕ). quarantineOf (a .s) (a .control) (a .entry .0) (a .forward .now) (a .reverse .now) d)
-    (c .before .before .before .destination .ensures)
 
 cast-t15 : tie.Need-cast-t15
 cast-t15 c =
@@ -70,14 +65,11 @@ is-empty-requires c κs = search needs
 returns-3 : tie.Need-returns-3
 returns-3 c =
     let a = c .before .before .before .before .before .before .before .before .before .before .before .before .args in
-    sound-to (a .s) (a .control) (a .entry .0) (a .forward .now) (a .reverse .now)
-    (c .before .before .before .before .before .destination .result)
-    (omega (arith, c .before .before .before .before .before .before .if1 .left, c .before .before .before .before .before .before .before .before .before .rise .ensures))
-    (getD (a .reverse .now) (c .before .before .before .before .before .destination .result) 0)
-    (getD-any (a .reverse .now) (c .before .before .before .before .before .destination .result) 0 empty (omega (arith, c .before .before .before .before .before .destination .ensures, destination-from-in (a .s) (a .control .head) (a .entry .0) (omega arith))))
+    let d = c .before .before .before .before .before .destination in
+    sound-to (a .s) (a .control) (a .forward .now) (a .reverse .now) (a .entry .0)
+    (omega (arith, c .before .before .before .before .before .before .if1 .left, c .before .before .before .before .before .before .before .before .before .rise .ensures)) (d .ensures)
+    (getD-any (a .reverse .now) (d .result) 0 empty (omega (arith, d .ensures, destination-from-in (a .s) (a .control .head) (a .entry .0) (omega arith))))
     (told-yes (c .before .before .before .points-back .ensures) (c .before .before .if2 .left)) (sym (c .before .is-empty .ensures) ∙ c .if3 .taken)
-    ∙ ap (λ (d : ℕ). quarantineOf (a .s) (a .control) (a .entry .0) (a .forward .now) (a .reverse .now) d)
-    (c .before .before .before .before .before .destination .ensures)
 
 row-requires : tie.Need-row-requires
 row-requires c κs = search needs
@@ -85,17 +77,12 @@ row-requires c κs = search needs
 returns-4 : tie.Need-returns-4
 returns-4 c =
     let a = c .before .before .before .before .before .before .before .before .before .before .before .before .before .args in
-    ap (λ (v : VisibleRow). Go (OverSlot (slot (c .before .before .before .before .before .before .destination .result)) v))
-    (c .row .ensures)
-    ∙ sound-over (a .s) (a .control) (a .entry .0) (a .forward .now) (a .reverse .now)
-    (c .before .before .before .before .before .before .destination .result)
-    (omega (arith, c .before .before .before .before .before .before .before .if1 .left, c .before .before .before .before .before .before .before .before .before .before .rise .ensures))
-    (getD (a .reverse .now) (c .before .before .before .before .before .before .destination .result) 0)
-    (getD-any (a .reverse .now) (c .before .before .before .before .before .before .destination .result) 0 empty (omega (arith, c .before .before .before .before .before .before .destination .ensures, destination-from-in (a .s) (a .control .head) (a .entry .0) (omega arith))))
-    (told-yes (c .before .before .before .before .points-back .ensures) (c .before .before .before .if2 .left))
-    (sym (c .before .before .is-empty .ensures) ∙ c .before .if3 .left)
-    ∙ ap (λ (d : ℕ). quarantineOf (a .s) (a .control) (a .entry .0) (a .forward .now) (a .reverse .now) d)
-    (c .before .before .before .before .before .before .destination .ensures)
+    let d = c .before .before .before .before .before .before .destination in
+    ap (λ (v : VisibleRow). Go (OverSlot (slot (d .result)) v)) (c .row .ensures)
+    ∙ sound-over (a .s) (a .control) (a .forward .now) (a .reverse .now) (a .entry .0)
+    (omega (arith, c .before .before .before .before .before .before .before .if1 .left, c .before .before .before .before .before .before .before .before .before .before .rise .ensures)) (d .ensures)
+    (getD-any (a .reverse .now) (d .result) 0 empty (omega (arith, d .ensures, destination-from-in (a .s) (a .control .head) (a .entry .0) (omega arith))))
+    (told-yes (c .before .before .before .before .points-back .ensures) (c .before .before .before .if2 .left)) (sym (c .before .before .is-empty .ensures) ∙ c .before .if3 .left)
 
 pub quarantine-spec : {M : Type 1} → statement M
 quarantine-spec =

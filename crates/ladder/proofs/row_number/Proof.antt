@@ -1,58 +1,48 @@
--- `row_number`: rung by rung. Assumes nothing.
+-- `row_number`: row by row of the table. Assumes nothing.
+use Prim.Native.Nat.{ℕ}
+use mathlib.Core.Path.{sym, ap, _∙_}
 use native.Mathlib.Omega.{arith}
-use borrow.Author.Tests.{not-true, not-false}
-use Rattle.geometry.proofs.Tests.{told-not, told-yes}
-use lib.ListN.{getD}
+use borrow.Author.Tests.{le-leb, lt-leb}
 use Rattle.geometry.specs.Entry.{empty}
+use Rattle.geometry.proofs.Tests.{told-not, told-yes}
 use Rattle.tracker.proofs.Sums.{getD-any}
-use Rattle.ladder.proofs.Stages.{row-5, row-6, row-7, row-8, row-0}
+use Rattle.engine.specs.Ladder.{stops, _▹_, pointsBack, rowNumber}
 use borrow.Author.Needs.{needs}
 use Rattle.ladder.proofs.row_number.Statement.{statement}
 use Rattle.ladder.proofs.row_number.Tie as tie
 
 returns : tie.Need-returns
-returns c =
-    let a = c .before .before .before .before .args in
-    row-5 (a .s) (a .control) (a .row) (a .span) (a .forward .now) (a .reverse .now) (c .if1 .taken)
+unfolding rowNumber stops _▹_
+returns c = simp (le-leb _ _ (c .if1 .taken))
 
 returns-2 : tie.Need-returns-2
-returns-2 c =
-    let a = c .before .before .before .before .before .args in
-    row-6 (a .s) (a .control) (a .row) (a .span) (a .forward .now) (a .reverse .now) (c .before .if1 .left) (not-true (a .span) (c .if2 .taken))
+unfolding rowNumber stops _▹_
+returns-2 c = simp (lt-leb _ _ (c .before .if1 .left), c .if2 .taken)
 
-mul-t10 : tie.Need-mul-t10
-mul-t10 c = search needs
+mul-t8 : tie.Need-mul-t8
+mul-t8 c = search needs
 
-shared-slice-read-t12 : tie.Need-shared-slice-read-t12
-shared-slice-read-t12 c = search needs
+shared-slice-read-t10 : tie.Need-shared-slice-read-t10
+shared-slice-read-t10 c = search needs
 
 points-back-requires : tie.Need-points-back-requires
 points-back-requires c κs = search needs
 
 returns-3 : tie.Need-returns-3
+unfolding rowNumber stops _▹_
 returns-3 c =
     let a = c .before .before .before .before .before .before .before .before .args in
-    row-7 (a .s) (a .control) (a .row) (a .span) (a .forward .now) (a .reverse .now) (c .before .before .before .before .if1 .left)
-    (not-false (a .span) (c .before .before .before .if2 .left)) (getD (a .forward .now) (a .row) 0)
-    (getD-any (a .forward .now) (a .row) 0 empty (omega arith)) (told-not (c .before .points-back .ensures) (c .if3 .taken))
+    let entry = getD-any (a .forward .now) (a .row) 0 empty (omega arith) in
+    let told = sym (ap (λ (e : ℕ). pointsBack e (a .s .q) (a .reverse .now) (a .row)) entry) ∙ told-not (c .before .points-back .ensures) (c .if3 .taken) in
+    simp (lt-leb _ _ (c .before .before .before .before .if1 .left), c .before .before .before .if2 .left, told)
 
 returns-4 : tie.Need-returns-4
+unfolding rowNumber stops _▹_
 returns-4 c =
-    let a = c .before .before .before .before .before .before .before .before .before .before .before .args in
-    row-8 (a .s) (a .control) (a .row) (a .span) (a .forward .now) (a .reverse .now)
-    (c .before .before .before .before .before .before .before .if1 .left)
-    (not-false (a .span) (c .before .before .before .before .before .before .if2 .left)) (getD (a .forward .now) (a .row) 0)
-    (getD-any (a .forward .now) (a .row) 0 empty (omega arith))
-    (told-yes (c .before .before .before .before .points-back .ensures) (c .before .before .before .if3 .left)) (c .if4 .taken)
-
-returns-5 : tie.Need-returns-5
-returns-5 c =
-    let a = c .before .before .before .before .before .before .before .before .before .before .before .args in
-    row-0 (a .s) (a .control) (a .row) (a .span) (a .forward .now) (a .reverse .now)
-    (c .before .before .before .before .before .before .before .if1 .left)
-    (not-false (a .span) (c .before .before .before .before .before .before .if2 .left)) (getD (a .forward .now) (a .row) 0)
-    (getD-any (a .forward .now) (a .row) 0 empty (omega arith))
-    (told-yes (c .before .before .before .before .points-back .ensures) (c .before .before .before .if3 .left)) (c .if4 .left)
+    let a = c .before .before .before .before .before .before .before .before .args in
+    let entry = getD-any (a .forward .now) (a .row) 0 empty (omega arith) in
+    let told = sym (ap (λ (e : ℕ). pointsBack e (a .s .q) (a .reverse .now) (a .row)) entry) ∙ told-yes (c .before .points-back .ensures) (c .if3 .left) in
+    simp (lt-leb _ _ (c .before .before .before .before .if1 .left), c .before .before .before .if2 .left, told)
 
 pub row-number-spec : {M : Type 1} → statement M
 row-number-spec =
@@ -60,9 +50,8 @@ row-number-spec =
     (tie.spec
     returns
     returns-2
-    mul-t10
-    shared-slice-read-t12
+    mul-t8
+    shared-slice-read-t10
     points-back-requires
     returns-3
-    returns-4
-    returns-5)
+    returns-4)

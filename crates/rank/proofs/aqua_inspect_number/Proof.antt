@@ -1,6 +1,6 @@
--- `rank::aqua_inspect_number` meets its contract: the entry over `ladder::inspect_number`. The contract is the core's, with the record behind the borrow for the record by value; what the core ensures is handed on as it stands (`Entry.antt`, `Passed.antt`).
+-- `rank::aqua_inspect_number` meets its contract: the entry over `ladder::inspect_number`. The contract is the core's, with the record behind the borrow for the record by value; what the core ensures is handed on as it stands (`Entry.antt`, `HandedOn.antt`).
 -- Assumes nothing.
-use Rattle.rank.proofs.Prelude.{refl, ℕ, [], _∷_, URA, named, w32, Val, SProp, ent, emp, via, fst∗, Fml, flft, fres, fshr-bor, Memory, Routine, Heap, Calls, Loops, WpFn, Tables, Atoms, Fun, givenOf, tables, tablesOf, Lfts, Shares, Given, ‵, raw, _⊛_, _$_, _∵_, !, qed, by, move, use3, look, look-raw, init, forget, stop, hop, from, load, of-opd, and-then, no-more, assigns, land, returns, enter, alloc1, alloc0, params1, pass1, pass0, free1, free0, FmC, fmOf, WpFn-mono, owns, flat, partAt, Are, Is, Ises, shows, valss, Spells, Tellss, uint-vals, uint-tells, uint-lawful, u8, u16, u32, ptr-vals, shr-tells, slice-vals, shr-slice-tells, plain, typesAt, typeAt, shuts, owned, peeks, Args, Vals, alive, onEntry, Meets, tripleOf, Contract, Triple, calls-at, atExit, lastsOf, entered, cited, Stays, stay-none-ref, goes-none-ref, walkOf, ends-at, walked, walk-meets, after, all-passed, all-fit, all-go, looked, answered, enters, leaves-shared}
+use Rattle.rank.proofs.Prelude.{refl, ℕ, [], _∷_, URA, named, w32, Val, SProp, ent, emp, via, fst∗, Fml, flft, fres, fshr-bor, Memory, Routine, Heap, Calls, Loops, WpFn, Tables, Atoms, Fun, givenOf, tables, tablesOf, Lfts, Shares, Given, ‵, raw, _⊛_, _$_, _∵_, !, qed, by, move, use3, look, look-raw, init, forget, stop, hop, from, load, of-opd, and-then, no-more, assigns, land, returns, enter, alloc1, alloc0, params1, pass1, pass0, free1, free0, FmC, fmOf, WpFn-mono, owns, flat, partAt, Are, Is, Ises, shows, valss, Spells, Tellss, uint-vals, uint-tells, uint-lawful, u8, u16, u32, ptr-vals, shr-tells, slice-vals, shr-slice-tells, plain, typesAt, typeAt, shuts, owned, peeks, Args, Vals, alive, onEntry, Meets, tripleOf, Contract, Triple, calls-at, atExit, lastsOf, entered, cited, Stays, stay-none-ref, goes-none-ref, walkOf, ends-at, walked, walk-meets, after, all-passed, all-fit, all-go, looked, after-core, enters, leaves-shared}
 use denote.Struct.Laws as LL
 use Rattle.geometry.specs.declared.Control.{Control as Control-of}
 use Rattle.geometry.proofs.Control
@@ -70,7 +70,7 @@ module _ {M : Type 1} (𝓤 : URA M) (H : Heap 𝓤) (A : Atoms 𝓤) (W : Given
       shuts ! tt Control.the-row q′ h (LL.vals Control.the-type Control′.the-laws h) b o $ owned ! Control.the-row (Is Control.the-row) (LL.makes Control.the-type Control′.the-plain 𝓤 H A) h _ was $
       move ! (4 ∷ 0 ∷ 5 ∷ []) $ use3 W (raw (Core 𝓤 H A at-mem run .pre to-core)) (enters 𝓤 H A W Alive (Control.the-row .own h (LL.vals Control.the-type Control′.the-laws h)) Rest) $
       calls-at ! fm (Core 𝓤 H A at-mem run) known to-core (and-then ! (load ! (from ! (stop !)) (look ! 4 refl)) (and-then ! (load ! (from ! (stop !)) (look ! 18 refl)) (and-then ! (load ! (from ! (stop !)) (look ! 16 refl)) (and-then ! (load ! (from ! (stop !)) (look ! 14 refl)) (and-then ! (load ! (from ! (stop !)) (look ! 12 refl)) (and-then ! (load ! (from ! (stop !)) (look ! 10 refl)) (and-then ! (load ! (from ! (stop !)) (look ! 8 refl)) (and-then ! (load ! (from ! (stop !)) (look ! 6 refl)) (no-more !))))))))) (λ v.
-      answered ! tt core.ended (core.clauses 𝓤 H A at-mem run) to-core v (λ r ws. peeks ! (typeAt (core.signature .result) (κs .1)) (Is (typeAt (core.signature .result) (κs .1))) (shows 𝓤 H A (typeAt (core.signature .result) (κs .1))) r (v ∷ []) (λ is.
+      after-core ! tt core.ended (core.clauses 𝓤 H A at-mem run) to-core v (λ r ws. peeks ! (typeAt (core.signature .result) (κs .1)) (Is (typeAt (core.signature .result) (κs .1))) (shows 𝓤 H A (typeAt (core.signature .result) (κs .1))) r (v ∷ []) (λ is.
       land ! (from ! (stop !)) (init ! 25 refl (uint-lawful 𝓤 H A W w32 .typed r _ is .0)) $
       returns ! (look ! 25 refl) $ forget ! 25 refl $ forget ! 23 refl $ forget ! 21 refl $ forget ! 19 refl $ forget ! 17 refl $ forget ! 15 refl $ forget ! 13 refl $ forget ! 11 refl $ forget ! 9 refl $ forget ! 7 refl $
       move ! (25 ∷ 26 ∷ []) $ free1 ! $ move ! (23 ∷ 24 ∷ []) $ free1 ! $ move ! (21 ∷ 22 ∷ []) $ free1 ! $ move ! (19 ∷ 20 ∷ []) $ free1 ! $ move ! (17 ∷ 18 ∷ []) $ free1 ! $ move ! (15 ∷ 16 ∷ []) $ free1 ! $ move ! (13 ∷ 14 ∷ []) $ free1 ! $ move ! (11 ∷ 12 ∷ []) $ free1 ! $ move ! (9 ∷ 10 ∷ []) $ free1 ! $ move ! (7 ∷ 8 ∷ []) $ free1 ! $ free0 ! $

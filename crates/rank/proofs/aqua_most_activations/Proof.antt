@@ -1,6 +1,6 @@
 -- `aqua_most_activations`: the sum, in numbers. Assumes nothing.
 use mathlib.Core.Path.{ap, _∙_}
-use Rattle.rank.specs.Sum.{sumOf}
+use Rattle.figures.specs.Sum.{sumOf}
 use borrow.Author.Needs.{needs}
 use Rattle.rank.proofs.aqua_most_activations.Statement.{statement}
 use Rattle.rank.proofs.aqua_most_activations.Tie as tie

@@ -1,6 +1,6 @@
--- `rank::aqua_read` meets its contract: the entry over `rank::read_core`. The contract is the core's, with the record behind the borrow for the record by value; what the core ensures is handed on as it stands (`Entry.antt`, `Passed.antt`).
+-- `rank::aqua_read` meets its contract: the entry over `rank::read_core`. The contract is the core's, with the record behind the borrow for the record by value; what the core ensures is handed on as it stands (`Entry.antt`, `HandedOn.antt`).
 -- Assumes nothing.
-use Rattle.rank.proofs.Prelude.{refl, ap, ℕ, [], _∷_, URA, fullShare, named, w32, Val, SProp, ent, emp, via, fst∗, Fml, flft, fat, Memory, Routine, Heap, Calls, Loops, WpFn, Tables, Atoms, Fun, givenOf, tables, tablesOf, Lfts, Shares, Given, ‵, raw, _⊛_, _$_, _∵_, !, qed, by, move, drop, use3, rewrite, look, look-raw, init, store-raw, forget, stop, hop, fld, from, load, addr, of-opd, and-then, no-more, assigns, land, returns, enter, alloc1, alloc0, params1, pass1, pass0, free1, free0, agg, whole, sub, look-in, FmC, fmOf, WpFn-mono, owns, flat, Are, Is, Ises, shows, valss, Spells, Tellss, uint-vals, uint-tells, u8, u16, u32, ptr-vals, mut-tells, slice-vals, mut-slice-tells, plain, typesAt, only, owned, peeks, Args, Vals, alive, onEntry, Meets, tripleOf, Contract, Triple, calls-at, atExit, lastsOf, entered, cited, Stays, stay-ref, walkOf, goes-ref, ends-at, walked, walk-meets, after, all-passed, all-fit, all-go, opened, answered, shut, enters, leaves}
+use Rattle.rank.proofs.Prelude.{refl, ap, ℕ, [], _∷_, URA, fullShare, named, w32, Val, SProp, ent, emp, via, fst∗, Fml, flft, fat, Memory, Routine, Heap, Calls, Loops, WpFn, Tables, Atoms, Fun, givenOf, tables, tablesOf, Lfts, Shares, Given, ‵, raw, _⊛_, _$_, _∵_, !, qed, by, move, drop, use3, rewrite, look, look-raw, init, store-raw, forget, stop, hop, fld, from, load, addr, of-opd, and-then, no-more, assigns, land, returns, enter, alloc1, alloc0, params1, pass1, pass0, free1, free0, agg, whole, sub, look-in, FmC, fmOf, WpFn-mono, owns, flat, Are, Is, Ises, shows, valss, Spells, Tellss, uint-vals, uint-tells, u8, u16, u32, ptr-vals, mut-tells, slice-vals, mut-slice-tells, plain, typesAt, only, owned, peeks, Args, Vals, alive, onEntry, Meets, tripleOf, Contract, Triple, calls-at, atExit, lastsOf, entered, cited, Stays, stay-ref, walkOf, goes-ref, ends-at, walked, walk-meets, after, all-passed, all-fit, all-go, opened, after-core, shut, enters, leaves}
 use denote.Struct.Laws as LL
 use Rattle.geometry.specs.declared.Control.{Control as Control-of}
 use Rattle.geometry.proofs.Control
@@ -9,8 +9,8 @@ use Rattle.rank.proofs.Reported
 use Rattle.rank.proofs.Reported.Laws as Reported′
 use Rattle.geometry.proofs.Settings
 use Rattle.geometry.proofs.Settings.Laws as Settings′
-use Rattle.rank.proofs.Outcome
-use Rattle.rank.proofs.Outcome.Laws as Outcome′
+use Rattle.figures.proofs.Outcome
+use Rattle.figures.proofs.Outcome.Laws as Outcome′
 use Rattle.rank.proofs.read_core as core
 use Rattle.rank.proofs.read_core.Symbol as core-def
 use Rattle.rank.proofs.read_core.Met as core-thm
@@ -85,7 +85,7 @@ module _ {M : Type 1} (𝓤 : URA M) (H : Heap 𝓤) (A : Atoms 𝓤) (W : Given
       assigns ! (agg ! (and-then ! (load ! (from ! (stop !)) (look ! 9 refl)) (and-then ! (load ! (from ! (fld ! refl (stop !))) (look-in ! 35 (sub ! 1 refl (whole !)))) (no-more !)))) (from ! (stop !)) (init ! 7 refl (tt, (tt, (record { fits = are .1 .1 .1 .1 .1 .1 .1 .1 .0 .0 .1 .0 }, tt)))) $
       move ! (5 ∷ 1 ∷ 6 ∷ []) $ use3 W (raw (Core 𝓤 H A at-mem run .pre to-core)) (enters 𝓤 H A W Alive (Control.the-row .own h (LL.vals Control.the-type Control′.the-laws h)) Rest) $
       calls-at ! fm (Core 𝓤 H A at-mem run) known to-core (and-then ! (load ! (from ! (stop !)) (look ! 29 refl)) (and-then ! (load ! (from ! (stop !)) (look ! 47 refl)) (and-then ! (load ! (from ! (stop !)) (look ! 45 refl)) (and-then ! (load ! (from ! (stop !)) (look ! 25 refl)) (and-then ! (load ! (from ! (stop !)) (look ! 21 refl)) (and-then ! (load ! (from ! (stop !)) (look ! 17 refl)) (and-then ! (load ! (from ! (stop !)) (look ! 13 refl)) (and-then ! (load ! (from ! (stop !)) (look ! 9 refl)) (and-then ! (load ! (from ! (stop !)) (look ! 5 refl)) (no-more !)))))))))) (λ v.
-      answered ! tt core.ended (core.clauses 𝓤 H A at-mem run) to-core v (λ r ws. peeks ! Reported.the-row (Is Reported.the-row) (shows 𝓤 H A Reported.the-row) r (v ∷ []) (λ is.
+      after-core ! tt core.ended (core.clauses 𝓤 H A at-mem run) to-core v (λ r ws. peeks ! Reported.the-row (Is Reported.the-row) (shows 𝓤 H A Reported.the-row) r (v ∷ []) (λ is.
       -- [what the answer owns; the tokens; the last values; what the core ensures; the record's cell; the open borrow; obs; auth; then the locals, from 8 on]
       land ! (from ! (stop !)) (init ! 34 refl (LL.lawful Reported.the-type Reported′.the-laws 𝓤 H A W .typed r _ is .0)) $ rewrite ! 34 (λ (u : Val). ‵ (fat fullShare Reported′.mir l10 0 u)) (ap only (LL.tells Reported.the-type Reported′.the-laws r _ is)) refl $
       assigns ! (of-opd ! (load ! (from ! (fld ! refl (stop !))) (look-in ! 34 (sub ! 1 refl (whole !))))) (from ! (hop ! (look ! 52 refl) (stop !))) (store-raw ! 4 refl (LL.lawful Control.the-type Control′.the-laws 𝓤 H A W .typed (r .control) _ (LL.owed Reported.the-type Reported′.the-laws r _ is .1 .0) .0)) $

@@ -1,6 +1,5 @@
 -- `read_core`: the engine's call, its answer in numbers. Assumes nothing.
-use mathlib.Core.Path.{ap}
-use Rattle.rank.specs.Outcome.{shown}
+use Rattle.figures.proofs.Outcomes.{in-numbers}
 use borrow.Author.Needs.{needs}
 use Rattle.rank.proofs.read_core.Statement.{statement}
 use Rattle.rank.proofs.read_core.Tie as tie
@@ -30,7 +29,7 @@ same-length-6 : tie.Need-same-length-6
 same-length-6 c = search needs
 
 returns : tie.Need-returns
-returns c = rw (c .numbers-of .ensures) (ap shown (c .before .before .before .before .before .before .before .before .before .before .before .before .before .before .read .ensures))
+returns c = in-numbers (c .before .before .before .before .before .before .before .before .before .before .before .before .before .before .read .ensures) (c .numbers-of .ensures)
 
 pub read-core-spec : {M : Type 1} → statement M
 read-core-spec =

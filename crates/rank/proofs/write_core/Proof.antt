@@ -1,6 +1,5 @@
 -- `write_core`: the engine's call, its answer in numbers. Assumes nothing.
-use mathlib.Core.Path.{ap}
-use Rattle.rank.specs.Outcome.{shown}
+use Rattle.figures.proofs.Outcomes.{in-numbers}
 use borrow.Author.Needs.{needs}
 use Rattle.rank.proofs.write_core.Statement.{statement}
 use Rattle.rank.proofs.write_core.Tie as tie
@@ -27,7 +26,7 @@ same-length-5 : tie.Need-same-length-5
 same-length-5 c = search needs
 
 returns : tie.Need-returns
-returns c = rw (c .numbers-of .ensures) (ap shown (c .before .before .before .before .before .before .before .before .before .before .before .before .write .ensures))
+returns c = in-numbers (c .before .before .before .before .before .before .before .before .before .before .before .before .write .ensures) (c .numbers-of .ensures)
 
 pub write-core-spec : {M : Type 1} → statement M
 write-core-spec =

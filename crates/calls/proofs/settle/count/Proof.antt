@@ -1,5 +1,5 @@
 -- `count`: the tracker's way, and the control record with its `spill`. Assumes nothing.
-use mathlib.Core.Path.{refl}
+use Rattle.calls.proofs.Settles.{counted-is}
 use borrow.Author.Needs.{needs}
 use Rattle.calls.proofs.settle.count.Statement.{statement}
 use Rattle.calls.proofs.settle.count.Tie as tie
@@ -20,7 +20,9 @@ same-length-2 : tie.Need-same-length-2
 same-length-2 c = search needs
 
 returns : tie.Need-returns
-returns c = (c .before .before .before .before .before .follow .ensures, refl)
+returns c =
+    let follow = c .before .before .before .before .before .follow in
+    (follow .ensures, counted-is (follow .result) (c .before .before .before .before .before .before .before .before .before .before .before .args .control))
 
 pub count-spec : {M : Type 1} → statement M
 count-spec = tie.close (tie.spec cast-follow follow-requires add-t12 same-length same-length-2 returns)

@@ -1,11 +1,12 @@
 -- `enter`: the copy, the two tables, the head. Assumes nothing.
-use Prim.Native.Nat.{ℕ, _+_}
-use mathlib.Core.Path.{refl, ap, _∙_}
+use Prim.Native.Nat.{_+_}
+use mathlib.Core.Path.{refl, ap}
+use mathlib.Core.List.{[]}
 use native.Mathlib.Omega.{arith}
-use lib.ListN.{getD, length-set}
+use lib.ListN.{getD}
 use Rattle.geometry.specs.declared.Entry.{Entry}
 use Rattle.geometry.proofs.Facts.{ranges-facts}
-use Rattle.calls.specs.Settling.{tablesOf}
+use Rattle.engine.specs.State.{stateOf}
 use Rattle.engine.proofs.Moves.{rise-from-most}
 use Rattle.calls.proofs.Settles.{copy-ready, copy-left, entry-read, entry-sound, entered}
 use borrow.Author.Needs.{needs}
@@ -97,7 +98,7 @@ returns c =
     c .before .before .before .before .before .before .before .before .before .before .before .before .before .before .before .before .before .before .before .before .before .before .args in
     let q =
     c .before .before .before .before .before .before .before .before .before .before .before .before .before .before .before .before .before .before .before .before .before .before .pre in
-    entered (a .s) (a .row .0) (a .place .0) (a .d .0) (tablesOf (a .store .now) (a .forward .now) (a .reverse .now) (a .control))
+    entered (a .s) (a .row .0) (a .place .0) (a .d .0) (stateOf (a .store .now) (a .forward .now) (a .reverse .now) [] [] (a .control))
     (c .before .before .before .before .before .before .before .before .before .before .before .before .before .before .before .copy-row .last .0)
     (getD (a .forward .now) (a .row .0) 0) (c .before .before .before .before .before .before .before .before .before .leave .last .0)
     (c .before .before .before .before .of-slot .result .0) (c .before .before .before .before .before .of-row .result .0) (c .before .rise .result)

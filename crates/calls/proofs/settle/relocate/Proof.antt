@@ -1,8 +1,9 @@
 -- `relocate`: the variant tells the move. Assumes nothing.
 use mathlib.Core.Path.{sym, ap, _∙_}
-use native.Mathlib.Omega.{arith}
+use mathlib.Core.List.{[]}
 use Rattle.engine.specs.declared.Move.{Move}
-use Rattle.calls.specs.Settling.{tablesOf, relocated}
+use Rattle.engine.specs.State.{stateOf}
+use Rattle.engine.specs.Steps.{relocated}
 use Rattle.calls.proofs.Settles.{still-movable, over-is}
 use borrow.Author.Needs.{needs}
 use Rattle.calls.proofs.settle.relocate.Statement.{statement}
@@ -34,7 +35,7 @@ enter-requires-2 c κs =
     still-movable (a .s) (a .row .0) (a .place .0)
     (c .before .before .before .before .before .before .before .before .before .before .before .moved2 .given .0 .0 .0)
     (c .before .before .before .before .before .before .before .before .before .before .before .moved2 .given .0 .1 .0 .0)
-    (tablesOf (a .store .now) (a .forward .now) (a .reverse .now) (a .control)) (q .1 .1)
+    (stateOf (a .store .now) (a .forward .now) (a .reverse .now) [] [] (a .control)) (q .1 .1)
     (c .before .before .before .before .before .before .before .send-home .last .1 .1 .1 .0)
     (c .before .before .before .before .before .before .before .send-home .last .1 .1 .1 .1 .0)
     (c .before .before .before .before .before .before .before .send-home .ensures .0)
@@ -56,7 +57,7 @@ returns-2 : tie.Need-returns-2
 returns-2 c =
     let a = c .before .before .before .before .before .before .before .before .before .before .before .before .before .before .before .before .args in
     c .before .before .before .before .before .before .enter .ensures
-    ∙ ap (λ (m : Move). relocated (a .s) (a .row .0) (a .place .0) m (tablesOf (a .store .now) (a .forward .now) (a .reverse .now) (a .control)))
+    ∙ ap (λ (m : Move). relocated (a .s) (a .row .0) (a .place .0) m (stateOf (a .store .now) (a .forward .now) (a .reverse .now) [] [] (a .control)))
     (sym (c .before .before .before .before .before .before .before .before .before .before .before .moved .given .1))
 
 same-length-4 : tie.Need-same-length-4
@@ -80,12 +81,12 @@ returns-3 c =
     ∙ over-is (a .s) (a .row .0) (a .place .0)
     (c .before .before .before .before .before .before .before .before .before .before .before .before .before .before .before .before .before .before .moved2 .given .0 .0 .0)
     (c .before .before .before .before .before .before .before .before .before .before .before .before .before .before .before .before .before .before .moved2 .given .0 .1 .0 .0)
-    (tablesOf (a .store .now) (a .forward .now) (a .reverse .now) (a .control)) (q .1 .1)
+    (stateOf (a .store .now) (a .forward .now) (a .reverse .now) [] [] (a .control)) (q .1 .1)
     (c .before .before .before .before .before .before .before .before .before .before .before .before .before .before .send-home .last .1 .1 .1 .0)
     (c .before .before .before .before .before .before .before .before .before .before .before .before .before .before .send-home .last .1 .1 .1 .1 .0)
     (c .before .before .before .before .before .before .before .before .before .before .before .before .before .before .send-home .ensures .0)
     (c .before .before .before .before .before .before .before .before .before .before .before .before .before .before .send-home .ensures .1)
-    ∙ ap (λ (m : Move). relocated (a .s) (a .row .0) (a .place .0) m (tablesOf (a .store .now) (a .forward .now) (a .reverse .now) (a .control)))
+    ∙ ap (λ (m : Move). relocated (a .s) (a .row .0) (a .place .0) m (stateOf (a .store .now) (a .forward .now) (a .reverse .now) [] [] (a .control)))
     (sym (c .before .before .before .before .before .before .before .before .before .before .before .before .before .before .before .before .before .before .moved2 .given .1))
 
 pub relocate-spec : {M : Type 1} → statement M

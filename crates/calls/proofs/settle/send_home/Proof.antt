@@ -2,8 +2,6 @@
 use Prim.Native.Nat.{_+_}
 use mathlib.Core.Path.{refl}
 use native.Mathlib.Omega.{arith}
-use lib.ListN.{length}
-use Rattle.geometry.proofs.Facts.{ranges-facts}
 use Rattle.calls.proofs.Settles.{copy-ready, copy-left}
 use borrow.Author.Needs.{needs}
 use Rattle.calls.proofs.settle.send_home.Statement.{statement}

@@ -1,0 +1,48 @@
+-- An inspect whose number is 0: its row is one of the table, and its part lies in the store. Assumes nothing.
+use Prim.Native.Nat.{ℕ, _+_, _*_, _<_, _≤_}
+use native.Mathlib.Omega.{arith}
+use mathlib.Core.Path.{_≡_, sym, _∙_}
+use mathlib.Core.Bool.{true}
+use lib.ListN.{length}
+use borrow.Author.Tests.{eq-eqb}
+use Rattle.geometry.specs.declared.Settings.{Settings}
+use Rattle.geometry.specs.declared.PhysicalRow.{PhysicalRow}
+use Rattle.geometry.specs.Numbering.{physical}
+use Rattle.geometry.proofs.Facts.{Ranges, Exact, ranges-facts, lengths-facts}
+use Rattle.row_bytes.proofs.Laws.{row-before, length-rowBytes}
+use Rattle.engine.specs.State.{State, lengthsOf}
+use Rattle.engine.specs.Steps.{place}
+use Rattle.engine.specs.Ladder.{tickNumber, inspectNumber}
+use Rattle.engine.specs.Calls.{inspectPart}
+use Rattle.engine.proofs.Facts.{Fit, tick-facts, pointersHold, inspect-facts, place-below}
+
+-- x: the number as the code has it
+module _ (S : Settings) (σ : State) (r x : ℕ) (same : x ≡ inspectNumber S σ r) (z : x ≡ 0) where
+  facts : (tickNumber S σ ≡ 0) × (r < S .n) × (pointersHold S σ r ≡ true)
+  facts = inspect-facts S σ r (sym same ∙ z)
+
+  fit : Fit S σ
+  fit = tick-facts S σ (facts .0) .0
+
+  ranges : Ranges S
+  ranges = ranges-facts S (fit .ranges)
+
+  exact : Exact S (lengthsOf σ)
+  exact = lengths-facts S (lengthsOf σ) (fit .lengths)
+
+  pub row-located : (r < length (σ .forward)) × (r < 65536)
+  row-located = (omega (arith, facts .1, exact .forward), omega (arith, facts .1, ranges .n-high))
+
+  below : place S σ r < S .n + S .q
+  below = place-below S σ r ranges (facts .1) (facts .2)
+
+  -- p: the place as the code has it
+  pub part-inside : (p : PhysicalRow) → p ≡ physical (place S σ r) → p .0 * S .w + S .w ≤ length (σ .store)
+  part-inside p placed = rw placed (omega (arith, row-before (S .w) (place S σ r) (S .n + S .q) below, exact .store))
+
+  pub part-long : length (inspectPart S σ r) ≡ S .w
+  unfolding inspectPart
+  part-long = rw (eq-eqb (inspectNumber S σ r) 0 (sym same ∙ z)) (length-rowBytes (S .w) (S .n + S .q) (σ .store) (place S σ r) (exact .store) below)
+
+  pub width-some : 1 ≤ S .w
+  width-some = ranges .w-low

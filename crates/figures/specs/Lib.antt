@@ -1,0 +1,4 @@
+pub mod Outcome
+pub mod Span
+pub mod Sum
+pub mod Promises

@@ -1,0 +1,115 @@
+// The engine's answers in numbers, for callers that cannot take an enum or a slice: what the C functions answer.
+ghost use mathlib.Core.Path.{_≡_};
+ghost use Rattle.engine.specs.State.{stateOf};
+ghost use Rattle.figures.specs.Outcome.{outcomeOf};
+ghost use Rattle.figures.specs.Promises.{InspectSpanPromise};
+ghost use Rattle.figures.specs.Sum.{sumOf};
+use engine::Access;
+use engine::Move;
+use geometry::Control;
+use geometry::Settings;
+use sizing::Figure;
+
+// The answer of a read or a write, in numbers.
+#[repr(C)]
+pub struct Outcome {
+    // the refusal's number, 0 where the access was accepted
+    pub number: u32,
+    // the slot moved to, 65535 for none
+    pub slot: u32,
+    // the row sent home, 65535 for none
+    pub row: u32,
+    // the place that the row had, 0 in a refusal
+    pub place: u64,
+}
+
+// The numbers of an answer.
+pub fn numbers_of(answer: Access) -> Outcome
+    ensures { λ r. ⌜ r ≡ outcomeOf answer ⌝ }
+{
+    match answer {
+        Access::Refused(number) => Outcome {
+            number: number,
+            slot: 65535,
+            row: 65535,
+            place: 0,
+        },
+        Access::Done { place, moved } => match moved {
+            Move::Stayed => Outcome {
+                number: 0,
+                slot: 65535,
+                row: 65535,
+                place: place.0,
+            },
+            Move::ToSlot(d) => Outcome {
+                number: 0,
+                slot: d.0 as u32,
+                row: 65535,
+                place: place.0,
+            },
+            Move::OverSlot(d, v) => Outcome {
+                number: 0,
+                slot: d.0 as u32,
+                row: v.0 as u32,
+                place: place.0,
+            },
+        },
+    }
+}
+
+// Where inspect's part lies in the store, for callers that cannot take a slice.
+#[repr(C)]
+pub struct Span {
+    pub start: usize,
+    pub length: usize,
+}
+
+// Inspect's span, with the record by value.
+pub fn inspect_span(
+    control: Control,
+    s: Settings,
+    row: u32,
+    store: &[u8],
+    forward: &[u16],
+    reverse: &[u16],
+    rows: &[u16],
+    counts: &[u32],
+) -> Span
+    ensures { λ r.
+        let lent = stateOf (now (store .entry)) (now (forward .entry)) (now (reverse .entry))
+        (now (rows .entry)) (now (counts .entry)) control in
+        ⌜ InspectSpanPromise s lent row r ⌝ }
+{
+    let number = ladder::inspect_number(control, s, row, store, forward, reverse, rows, counts);
+    if number != 0 {
+        return Span {
+            start: 0,
+            length: 0,
+        };
+    }
+    let place = ladder::place(s, row, forward);
+    let w = s.w as usize;
+    Span {
+        start: (place.0 as usize) * w,
+        length: w,
+    }
+}
+
+// The answer of a sizing sum, in numbers.
+#[repr(C)]
+pub struct Sum {
+    // 1 where an argument is outside its range, else 0
+    pub number: u32,
+    // 0 in a refusal
+    pub value: u64,
+}
+
+// The numbers of a sizing sum.
+pub fn sum_of(f: Figure) -> Sum
+    ensures { λ r. ⌜ r ≡ sumOf f ⌝ }
+{
+    Sum {
+        number: sizing::number(f),
+        value: sizing::value(f),
+    }
+}

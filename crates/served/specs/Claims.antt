@@ -1,0 +1,69 @@
+-- Demands 1, 2 and 3 of the C functions. Their proofs are `demand-1-served` to `demand-3-served` of proofs/Served.antt.
+-- Assumes nothing.
+use Prim.Native.Nat.{ℕ, _<_}
+use mathlib.Core.Path.{_≡_}
+use mathlib.Core.Logic.{_≢_}
+use mathlib.Core.List.{List, [], _∷_, _++_, map}
+use lib.ListN.{take, drop}
+use Rattle.geometry.specs.declared.Settings.{Settings}
+use Rattle.engine.specs.State.{State}
+use Rattle.engine.specs.Tables.{Inverse}
+use Rattle.figures.specs.declared.Span.{Span}
+use Rattle.figures.specs.Promises.{SetUpPromise, InspectSpanPromise}
+use Rattle.history.specs.Run.{figureless, Each, OneOf}
+use Rattle.history.specs.Demand1.{allowed, bufferOf}
+use Rattle.history.specs.Demand2.{Memory, standing, remembered, IsRow, RowsReturned}
+use Rattle.history.specs.Demand3.{Kept}
+use Rattle.served.specs.Transcript.{Exchange, read, write, tick, inspectNumber, inspectSpan}
+use Rattle.served.specs.Transcript.{Promised, Logged, whole, misfit, Transcript, seen, seenOf}
+
+-- what holds of a call, whatever it was lent: its number is one that document 01 allows it, and a refusal leaves all that
+-- was lent and holds nothing beside the number
+pub record Proper (before : State) (x : Exchange) (after : State) : Type 0 where
+  pub number : OneOf (allowed ((seen x) .call)) ((seen x) .answer .number)
+  pub kept : (seen x) .answer .number ≢ 0 → after ≡ before
+  pub figures : (seen x) .answer .number ≢ 0
+      → (seen x) .answer ≡ figureless ((seen x) .answer .number) (bufferOf ((seen x) .call))
+
+-- For all settings, arguments and lent memory, sound or not.
+abbrev pub Demand1Served : Type 0
+Demand1Served = (S : Settings) (before after : State) (x : Exchange) → Promised S before x after → Proper before x after
+
+-- For all settings and all lent memory: if `aqua_set_up` answered 0, then demand 3 holds of what the caller sees of every
+-- transcript from there (`Kept` of crate `history`).
+abbrev pub Demand3Served : Type 0
+Demand3Served = (S : Settings) (blank σ σ′ : State) (es : List Logged) → SetUpPromise S blank σ 0 → Transcript S σ es σ′
+    → Kept S (map seenOf es)
+
+-- a call that was lent another length is answered 3, or a span of no bytes
+abbrev pub Answers3 : Exchange → Type 0
+Answers3 (read row buffer outcome filled) = outcome .number ≡ 3
+Answers3 (write row column bytes outcome) = outcome .number ≡ 3
+Answers3 (tick number) = number ≡ 3
+Answers3 (inspectNumber row number) = number ≡ 3
+Answers3 (inspectSpan row span) = span ≡ record { start = 0; length = 0 }
+
+-- which numbers can occur: 3 for such a call alone, else 0, 5, 6, 8 and 9
+abbrev pub NumberOccurs : Logged → Type 0
+NumberOccurs (whole x) = OneOf (0 ∷ 5 ∷ 6 ∷ 8 ∷ 9 ∷ []) ((seen x) .answer .number)
+NumberOccurs (misfit lent after x) = Answers3 x
+
+-- demand 2, of a transcript that leaves the memory σ′; mem: the bytes of the rows at set-up
+pub record Preserved (S : Settings) (mem : Memory) (es : List Logged) (σ′ : State) : Type 0 where
+  -- forward and reverse tables are inverse
+  pub inverse : Inverse S σ′
+  -- every accepted read of the transcript filled its buffer with its row
+  pub reads : RowsReturned S mem (map seenOf es)
+  -- and every row lies, with its bytes, where `aqua_inspect_span` says
+  pub spans : (r : ℕ) → r < S .n → (span : Span) → InspectSpanPromise S σ′ r span
+      → IsRow S (remembered mem (map seenOf es)) r (take (span .length) (drop (span .start) (σ′ .store)))
+  pub numbers : Each NumberOccurs es
+
+abbrev pub Demand2Served : Type 0
+Demand2Served = (S : Settings) (blank σ σ′ : State) (es : List Logged) → SetUpPromise S blank σ 0 → Transcript S σ es σ′
+    → Preserved S (standing S blank) es σ′
+
+-- Every beginning of a transcript is a transcript, so that both hold after every call of it.
+abbrev pub BeginningsServed : Type 0
+BeginningsServed = (S : Settings) (σ σ′ : State) (xs ys : List Logged) → Transcript S σ (xs ++ ys) σ′
+    → (between : State) × (Transcript S σ xs between × Transcript S between ys σ′)

@@ -1,0 +1,96 @@
+//! The figures as tables, for a terminal and in Markdown, and what they come to.
+
+use crate::measure::Cell;
+use crate::runner::{IDIOMATIC, RUNNERS, TUNED};
+use crate::stream::Kind;
+
+/// Proved against tuned: as fast, within the noise of a machine that others use.
+const EVEN: f64 = 0.9;
+/// Proved against idiomatic, on misses with K = 4096.
+const TWICE: f64 = 2.0;
+
+/// The first engine is the proved one, with which the others are compared.
+const OTHERS: std::ops::Range<usize> = 1..RUNNERS.len();
+
+pub fn print_head(kind: Kind) {
+    let names: String = RUNNERS.iter().map(|runner| format!("{:>11}", runner.name)).collect();
+    let others: String = OTHERS.map(|at| format!("{:>13}", format!("/ {}", RUNNERS[at].name))).collect();
+    println!("\n{}: {}", kind.name(), kind.settings());
+    println!("{:>5}{:>6}{names}   proved:{others}", "W", "K");
+}
+
+pub fn print_row(cell: &Cell) {
+    let times: String = cell.nanoseconds.iter().map(|&time| format!("{:>11}", nanoseconds(time))).collect();
+    let ratios: String = OTHERS.map(|at| format!("{:>13}", ratio(cell.ratios[at]))).collect();
+    println!("{:>5}{:>6}{times}{:>10}{ratios}", cell.w, cell.k, "");
+}
+
+fn nanoseconds(time: f64) -> String {
+    let digits = if time < 99.95 { 1 } else { 0 };
+    format!("{time:.digits$}")
+}
+
+fn ratio(ratio: f64) -> String {
+    format!("{ratio:.2}")
+}
+
+fn least(figures: impl Iterator<Item = f64>) -> f64 {
+    figures.fold(f64::INFINITY, f64::min)
+}
+
+/// The least and the most, or one number where they are printed alike.
+fn range(figures: impl Iterator<Item = f64> + Clone, print: fn(f64) -> String) -> String {
+    let (least, most) = (print(least(figures.clone())), print(figures.fold(0.0, f64::max)));
+    if least == most {
+        least
+    } else {
+        format!("{least} to {most}")
+    }
+}
+
+/// All runs in one table, in Markdown.
+pub fn print_markdown(runs: &[Vec<Cell>]) {
+    let names = RUNNERS.map(|runner| runner.name);
+    let others: Vec<String> = OTHERS.map(|at| format!("proved / {}", names[at])).collect();
+    println!(
+        "\n| pattern | W | K | {} | {} |",
+        names.map(|name| format!("{name}, ns")).join(" | "),
+        others.join(" | ")
+    );
+    println!("|---|{}", "---|".repeat(2 + names.len() + others.len()));
+    for (at, cell) in runs[0].iter().enumerate() {
+        let times = (0..names.len()).map(|by| range(runs.iter().map(|run| run[at].nanoseconds[by]), nanoseconds));
+        let ratios = OTHERS.map(|by| range(runs.iter().map(|run| run[at].ratios[by]), ratio));
+        let figures: Vec<String> = times.chain(ratios).collect();
+        println!("| {} | {} | {} | {} |", cell.kind.name(), cell.w, cell.k, figures.join(" | "));
+    }
+}
+
+/// How the proved engine compares with another one: the least and the most ratio of all runs, for each K.
+fn compare(runs: &[Vec<Cell>], by: usize) {
+    let mut sizes: Vec<u32> = runs[0].iter().map(|cell| cell.k).collect();
+    sizes.sort_unstable();
+    sizes.dedup();
+    let ranges = sizes.iter().map(|&k| {
+        let cells = runs.iter().flatten().filter(move |cell| cell.k == k);
+        format!("{} with K = {k}", range(cells.map(|cell| cell.ratios[by]), ratio))
+    });
+    println!("proved / {}: {}", RUNNERS[by].name, ranges.collect::<Vec<_>>().join(", "));
+}
+
+pub fn summary(runs: &[Vec<Cell>]) {
+    let cells = || runs.iter().flatten();
+    let accesses: u64 = cells().map(|cell| cell.accesses).sum();
+    println!("\naccesses timed: {accesses}, refused: 0; answers, bytes read and lent memory equal in all cells");
+    OTHERS.for_each(|by| compare(runs, by));
+    let large = cells().filter(|cell| cell.kind == Kind::Misses && cell.k == 4096);
+    let least = least(large.map(|cell| cell.ratios[IDIOMATIC]));
+    let verdict = if least >= TWICE { "met" } else { "MISSED" };
+    println!("target, proved / idiomatic at least {TWICE} on misses with K = 4096: {least:.2}, {verdict}");
+    let below: Vec<&Cell> = cells().filter(|cell| cell.ratios[TUNED] < EVEN).collect();
+    let verdict = if below.is_empty() { "met in every cell" } else { "MISSED" };
+    println!("target, proved / tuned at least {EVEN}: {verdict}");
+    for cell in below {
+        println!("   below: {}, W = {}, K = {}: {:.2}", cell.kind.name(), cell.w, cell.k, cell.ratios[TUNED]);
+    }
+}
