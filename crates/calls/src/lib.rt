@@ -27,7 +27,7 @@ pub struct Numbered {
     pub control: Control,
 }
 
-// The answer of a refusal, which leaves the control record.
+// Returns the answer of a refusal, which leaves the control record.
 fn refused(control: Control, number: u32) -> Answered
     ensures { λ r. ⌜ r ≡ record { answer = Access.Refused number; control = control } ⌝ }
 {
@@ -37,7 +37,7 @@ fn refused(control: Control, number: u32) -> Answered
     }
 }
 
-// The answer of an accepted access, which leaves this control record.
+// Returns the answer of an accepted access, which leaves this control record.
 fn done(control: Control, place: PhysicalRow, moved: Move) -> Answered
     ensures { λ r. ⌜ r ≡ record { answer = Access.Done place moved; control = control } ⌝ }
 {
@@ -58,7 +58,7 @@ const NEW: Control = Control {
     acts: 0,
 };
 
-// Set-up: its number, and everything lent but the store as new.
+// Set-up: returns its number, and makes everything lent but the store as new where it is 0.
 pub fn set_up(
     control: Control,
     s: Settings,
@@ -98,7 +98,7 @@ pub fn set_up(
     }
 }
 
-// Tick: its number, and the tracker as new.
+// Tick: returns its number, and makes the tracker as new where it is 0.
 pub fn tick(
     control: Control,
     s: Settings,
@@ -134,7 +134,7 @@ pub fn tick(
     }
 }
 
-// Read: the row's bytes go into the buffer.
+// Read: the row's bytes go into the buffer where it is accepted.
 pub fn read(
     control: Control,
     s: Settings,
@@ -189,7 +189,7 @@ pub fn read(
     }
 }
 
-// Write: bytes go into the row from a column on.
+// Write: the bytes go into the row from a column on where it is accepted.
 pub fn write(
     control: Control,
     s: Settings,
@@ -245,7 +245,7 @@ pub fn write(
     }
 }
 
-// Inspect's part; its number is `ladder::inspect_number`.
+// Returns inspect's part; its number is `ladder::inspect_number`.
 pub fn inspect_part<'a>(
     control: Control,
     s: Settings,

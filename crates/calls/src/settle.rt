@@ -21,7 +21,7 @@ use geometry::Slot;
 use geometry::VisibleRow;
 use tracker::Choice;
 
-// The reverse entry of the slot that a row leaves is emptied.
+// Empties the reverse entry of the slot that a row leaves.
 fn leave(reverse: &mut [u16], entry: Entry)
     requires { ⌜ (entry .0 ≡ empty) ⊎ (entry .0 < length (now reverse)) ⌝ }
     ensures { λ _. ⌜ now (reverse .exit) ≡ left (now (reverse .entry)) (entry .0) ⌝ }
@@ -33,7 +33,7 @@ fn leave(reverse: &mut [u16], entry: Entry)
     reverse[at] = Entry::EMPTY.0;
 }
 
-// The row that a slot holds is copied home and its forward entry emptied.
+// Copies the row that a slot holds home, and empties its forward entry.
 fn send_home(s: Settings, d: Slot, v: VisibleRow, store: &mut [u8], forward: &mut [u16])
     requires { ⌜ Sendable s (d .0) (v .0) (now store) (now forward) ⌝ }
     ensures store { λ _.
@@ -47,7 +47,7 @@ fn send_home(s: Settings, d: Slot, v: VisibleRow, store: &mut [u8], forward: &mu
     forward[at] = Entry::EMPTY.0;
 }
 
-// A row is copied from its place to a slot, and the tables and the head with it.
+// Copies a row from its place to a slot, and changes the tables and the head with it.
 fn enter(
     control: Control,
     s: Settings,
@@ -81,7 +81,7 @@ fn enter(
     }
 }
 
-// Step 4, once it is decided where the row goes.
+// Does step 4, once it is decided where the row goes.
 pub fn relocate(
     control: Control,
     s: Settings,
@@ -109,7 +109,7 @@ pub fn relocate(
     }
 }
 
-// Step 2 of an accepted access, and `acts` of step 3: all that is left to do where the row stays.
+// Does step 2 of an accepted access and counts it in `acts` (step 3): all that is left to do where the row stays.
 pub fn count(
     control: Control,
     place: PhysicalRow,

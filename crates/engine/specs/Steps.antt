@@ -87,6 +87,7 @@ headAfter S head Stayed = head
 headAfter S head (ToSlot d) = (d .0 + 1) % S .q
 headAfter S head (OverSlot d v) = (d .0 + 1) % S .q
 
+-- '.. and `passed` rises' (up: by how much)
 abbrev pub passedAfter : ℕ → ℕ → Move → ℕ
 passedAfter passed up Stayed = passed
 passedAfter passed up (ToSlot d) = passed + up
@@ -128,9 +129,10 @@ relocated S r p m σ =
       };
     }
 
--- all four
+-- all four, with the move that was decided
 abbrev pub settled : Settings → State → ℕ → List ℕ → Move → State
 settled S σ r store m = relocated S r (place S σ r) m (counted S σ r store)
 
+-- all that is lent after an accepted access
 abbrev pub stateAfter : Settings → State → ℕ → List ℕ → State
 stateAfter S σ r store = settled S σ r store (move S σ r)

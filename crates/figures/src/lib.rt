@@ -23,7 +23,7 @@ pub struct Outcome {
     pub place: u64,
 }
 
-// The numbers of an answer.
+// Returns the numbers of an answer.
 pub fn numbers_of(answer: Access) -> Outcome
     ensures { λ r. ⌜ r ≡ outcomeOf answer ⌝ }
 {
@@ -64,7 +64,7 @@ pub struct Span {
     pub length: usize,
 }
 
-// Inspect's span, with the record by value.
+// Returns where inspect's part lies. The control record is taken by value.
 pub fn inspect_span(
     control: Control,
     s: Settings,
@@ -104,7 +104,7 @@ pub struct Sum {
     pub value: u64,
 }
 
-// The numbers of a sizing sum.
+// Returns the numbers of a sizing sum.
 pub fn sum_of(f: Figure) -> Sum
     ensures { λ r. ⌜ r ≡ sumOf f ⌝ }
 {

@@ -28,7 +28,7 @@ pub enum Verdict {
     Go(Move),
 }
 
-// 1 and 2.
+// Returns the number of the settings: 1 where one is outside its range, 2 where L is too large, else 0.
 pub fn settings_number(s: Settings) -> u32
     ensures { λ r. ⌜ r ≡ settingsNumber s ⌝ }
 {
@@ -41,7 +41,7 @@ pub fn settings_number(s: Settings) -> u32
     0
 }
 
-// 1, 2 and 3.
+// Returns 1, 2 or 3 where the settings or a length are refused, else 0: the number of a set-up.
 pub fn fit_number(s: Settings, lent: Lengths) -> u32
     ensures { λ r. ⌜ r ≡ fitNumber s lent ⌝ }
 {
@@ -55,7 +55,7 @@ pub fn fit_number(s: Settings, lent: Lengths) -> u32
     0
 }
 
-// The condition of 4: the control record or the tracker counts are unsound.
+// Tells whether 4 applies: the control record or the tracker counts are unsound.
 pub fn control_unsound(control: Control, s: Settings, counts: &[u32]) -> bool
     ensures { λ r. ⌜ r ≡ controlUnsound s control (now (counts .entry)) ⌝ }
 {
@@ -67,7 +67,7 @@ pub fn control_unsound(control: Control, s: Settings, counts: &[u32]) -> bool
         | tracker::any_above(counts, control.acts)
 }
 
-// 1 to 4, which every call but set-up has to pass.
+// Returns the first of 1 to 4 that applies, or 0: the number of a tick, and what every call but set-up has to pass.
 pub fn tick_number(
     control: Control,
     s: Settings,
@@ -99,7 +99,7 @@ pub fn tick_number(
     0
 }
 
-// The test of both rows with 7: the entry is empty, or below the limit and the other table has x for it.
+// Tells whether an entry is empty, or below the limit and the other table has x for it. Where it does not, 7 applies.
 fn points_back(entry: Entry, limit: u32, other: &[u16], x: u32) -> bool
     requires { ⌜ limit ≤ length (now other) ⌝ }
     ensures { λ r. ⌜ r ≡ pointsBack (entry .0) limit (now (other .entry)) x ⌝ }
@@ -114,7 +114,7 @@ fn points_back(entry: Entry, limit: u32, other: &[u16], x: u32) -> bool
     (other[at] as u32) == x
 }
 
-// 5, 6 and 7; off: the condition of 6.
+// Returns the first of 5, 6 and 7 (row's pointers) that applies, or 0; off: whether 6 applies.
 pub fn row_number(s: Settings, row: u32, off: bool, forward: &[u16], reverse: &[u16]) -> u32
     requires { ⌜ (length (now forward) ≡ s .n) × (length (now reverse) ≡ s .q) ⌝ }
     ensures { λ r. ⌜ r ≡ rowNumber s (now (forward .entry)) (now (reverse .entry)) row off ⌝ }
@@ -132,14 +132,14 @@ pub fn row_number(s: Settings, row: u32, off: bool, forward: &[u16], reverse: &[
     0
 }
 
-// The condition of 6, for a read.
+// Tells whether 6 applies to a read with a buffer of that length.
 pub fn read_off(s: Settings, count: usize) -> bool
     ensures { λ r. ⌜ r ≡ readOff s count ⌝ }
 {
     !(count == (s.w as usize))
 }
 
-// The condition of 6, for a write: the sum of column and count is not formed.
+// Tells whether 6 applies to a write of so many bytes from that column on. The sum of the two is not formed.
 pub fn write_off(s: Settings, column: usize, count: usize) -> bool
     ensures { λ r. ⌜ r ≡ writeOff s column count ⌝ }
 {
@@ -150,7 +150,7 @@ pub fn write_off(s: Settings, column: usize, count: usize) -> bool
     w - column < count
 }
 
-// The place of a row with that forward entry.
+// Returns the place of a row with that forward entry.
 fn place_of(s: Settings, row: VisibleRow, entry: Entry) -> PhysicalRow
     ensures { λ r. ⌜ r ≡ physical (placeBy s (entry .0) (row .0)) ⌝ }
 {
@@ -160,7 +160,7 @@ fn place_of(s: Settings, row: VisibleRow, entry: Entry) -> PhysicalRow
     geometry::slot_row(s, entry.slot())
 }
 
-// Step 1: the place of a row.
+// Returns the place of a row (step 1).
 pub fn place(s: Settings, row: u32, forward: &[u16]) -> PhysicalRow
     requires { ⌜ (row < length (now forward)) × (row < 65536) ⌝ }
     ensures { λ r. ⌜ r ≡ physical (placeBy s (getD (now (forward .entry)) row empty) row) ⌝ }
@@ -170,7 +170,7 @@ pub fn place(s: Settings, row: u32, forward: &[u16]) -> PhysicalRow
     place_of(s, VisibleRow(row as u16), entry)
 }
 
-// The destination of a row with that forward entry.
+// Returns the destination of a row with that forward entry.
 pub fn destination(s: Settings, head: u32, entry: Entry) -> u32
     requires { ⌜ (head < s .q) × (s .q ≤ 5500) ⌝ }
     ensures { λ r. ⌜ r ≡ destinationFrom s head (entry .0) ⌝ }
@@ -181,7 +181,7 @@ pub fn destination(s: Settings, head: u32, entry: Entry) -> u32
     head
 }
 
-// By how much its move raises `passed`.
+// Returns by how much the move of such a row raises `passed`.
 pub fn rise(head: u32, entry: Entry) -> u32
     ensures { λ r. ⌜ r ≡ riseFrom head (entry .0) ⌝ }
 {
@@ -191,7 +191,8 @@ pub fn rise(head: u32, entry: Entry) -> u32
     1
 }
 
-// 9 and the destination's 7, and the move where neither applies; entry: the forward entry of a row to be quarantined.
+// Judges 9 and the destination's 7 for a row to be quarantined, and returns its move where neither applies.
+// entry: the row's forward entry.
 fn quarantine(
     control: Control,
     s: Settings,
@@ -222,7 +223,7 @@ fn quarantine(
     Verdict::Go(Move::OverSlot(target, held.row()))
 }
 
-// The estimate calls for a move: there is one, and it is a multiple of A.
+// Tells whether an estimate calls for a move: there is one, and it is a multiple of A.
 fn is_due(s: Settings, estimate: u32) -> bool
     requires { ⌜ 1 ≤ s .a ⌝ }
     ensures { λ r. ⌜ r ≡ isDue (s .a) estimate ⌝ }
@@ -233,7 +234,7 @@ fn is_due(s: Settings, estimate: u32) -> bool
     estimate % s.a == 0
 }
 
-// 8, 9 and the destination's 7, and where a row with that estimate goes.
+// Judges 8, 9 and the destination's 7, and returns where a row with that estimate goes where none applies.
 pub fn decide(
     control: Control,
     s: Settings,
@@ -262,7 +263,7 @@ pub fn decide(
     quarantine(control, s, Entry(forward[at]), forward, reverse)
 }
 
-// The number of an inspect.
+// Returns the number of an inspect.
 pub fn inspect_number(
     control: Control,
     s: Settings,

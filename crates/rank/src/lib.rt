@@ -25,7 +25,7 @@ pub struct Reported {
     pub control: Control,
 }
 
-// Read, with the record by value.
+// Reads a row, with the control record by value.
 pub fn read_core(
     control: Control,
     s: Settings,
@@ -63,7 +63,7 @@ pub fn read_core(
     }
 }
 
-// Write, with the record by value.
+// Writes into a row, with the control record by value.
 pub fn write_core(
     control: Control,
     s: Settings,
@@ -103,7 +103,7 @@ pub fn write_core(
     }
 }
 
-// Set-up: the number.
+// Begins a new history, and returns the number.
 #[no_mangle]
 pub extern "C" fn aqua_set_up(
     control: &mut Control,
@@ -126,7 +126,7 @@ pub extern "C" fn aqua_set_up(
     t.number
 }
 
-// Read: the answer in numbers; the buffer is filled where the number is 0.
+// Reads a row: returns the answer in numbers, and fills the buffer where the number is 0.
 #[no_mangle]
 pub extern "C" fn aqua_read(
     control: &mut Control,
@@ -161,7 +161,7 @@ pub extern "C" fn aqua_read(
     t.outcome
 }
 
-// Write: the answer in numbers.
+// Writes bytes into a row from a column on, and returns the answer in numbers.
 #[no_mangle]
 pub extern "C" fn aqua_write(
     control: &mut Control,
@@ -198,7 +198,7 @@ pub extern "C" fn aqua_write(
     t.outcome
 }
 
-// Tick: the number.
+// Ends the epoch, and returns the number.
 #[no_mangle]
 pub extern "C" fn aqua_tick(
     control: &mut Control,
@@ -221,7 +221,7 @@ pub extern "C" fn aqua_tick(
     t.number
 }
 
-// Inspect, by its first call: the number.
+// Inspect, by its first call: returns the number.
 #[no_mangle]
 pub extern "C" fn aqua_inspect_number(
     control: &Control,
@@ -241,7 +241,7 @@ pub extern "C" fn aqua_inspect_number(
     ladder::inspect_number(*control, s, row, store, forward, reverse, rows, counts)
 }
 
-// Inspect, by its second call: the part of the store that holds the row, of length 0 where the number is not 0.
+// Inspect, by its second call: returns the part of the store that holds the row, of length 0 where the number is not 0.
 pub fn inspect_part<'a>(
     control: &Control,
     s: Settings,
@@ -260,7 +260,7 @@ pub fn inspect_part<'a>(
     calls::inspect_part(*control, s, row, store, forward, reverse, rows, counts)
 }
 
-// Inspect, by its second call, for C: where the part lies, of length 0 where the number is not 0.
+// Inspect, by its second call, for C: returns where that part lies, and 0 and 0 where the number is not 0.
 #[no_mangle]
 pub extern "C" fn aqua_inspect_span(
     control: &Control,
@@ -280,7 +280,7 @@ pub extern "C" fn aqua_inspect_span(
     figures::inspect_span(*control, s, row, store, forward, reverse, rows, counts)
 }
 
-// The least quarantine size, in slots; times in nanoseconds.
+// Returns the least quarantine size, in slots; times are in nanoseconds.
 #[no_mangle]
 pub extern "C" fn aqua_least_size(
     trefw: u64,
@@ -302,7 +302,7 @@ pub extern "C" fn aqua_least_size(
     }))
 }
 
-// The most activations of a bank in a refresh window; times in nanoseconds.
+// Returns the most activations of a bank in a refresh window; times are in nanoseconds.
 #[no_mangle]
 pub extern "C" fn aqua_most_activations(trefw: u64, trc: u64, trefi: u64, trfc: u64) -> Sum
     ensures { λ r.
