@@ -199,6 +199,13 @@ inspect-all P p0 p1 p2 p3 p4 p5 p7 S σ r =
     ladder-all P _ _ (tick-all P p0 p1 p2 p3 p4 S σ) (λ e.
     row-all P p0 p5 S (σ .forward) (σ .reverse) r false (λ e. absurd (false≢true e)) (λ b e. p7))
 
+-- neither a tick nor an inspect is refused with 9
+pub tick-not-9 : (S : Settings) (σ : State) → tickNumber S σ ≢ 9
+tick-not-9 S σ = tick-all (λ x. x ≢ 9) (λ z. omega arith) (λ z. omega arith) (λ z. omega arith) (λ z. omega arith) (λ z. omega arith) S σ
+
+pub inspect-not-9 : (S : Settings) (σ : State) (r : ℕ) → inspectNumber S σ r ≢ 9
+inspect-not-9 S σ r = inspect-all (λ x. x ≢ 9) (λ z. omega arith) (λ z. omega arith) (λ z. omega arith) (λ z. omega arith) (λ z. omega arith) (λ z. omega arith) (λ z. omega arith) S σ r
+
 -- ---- 5, 6 and 7
 
 pub row-facts : (S : Settings) (forward reverse : List ℕ) (r : ℕ) (off : Bool) → rowNumber S forward reverse r off ≡ 0
@@ -316,7 +323,7 @@ module _ (S : Settings) (σ : State) (r : ℕ) (off : Bool) where
   unfolding accessNumber lateNumber quarantine
   wanting h =
       elim (reach _ _ _ h) [
-        | inl e ↦ absurd (tick-all (λ x. x ≢ 9) (λ z. omega arith) (λ z. omega arith) (λ z. omega arith) (λ z. omega arith) (λ z. omega arith) S σ e)
+        | inl e ↦ absurd (tick-not-9 S σ e)
         | inr c ↦ elim (reach _ _ _ (c .1)) [
           | inl e ↦ absurd (row-all (λ x. x ≢ 9) (λ z. omega arith) (λ z. omega arith) S (σ .forward) (σ .reverse) r off (λ k z. omega arith) (λ b k z. omega arith) e)
           | inr d ↦

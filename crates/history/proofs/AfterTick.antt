@@ -3,7 +3,6 @@ use Prim.Native.Nat.{ℕ, _+_, _<_, zero-le}
 use native.Mathlib.Nat.{le-of-eq}
 use native.Mathlib.Omega.{arith}
 use mathlib.Core.Path.{_≡_, sym, _∙_, subst}
-use mathlib.Core.Logic.{_≢_}
 use mathlib.Core.Bool.{Bool, false}
 use lib.Dec.{eqb}
 use lib.ListN.{length, getD-replicate, length-replicate}
@@ -15,7 +14,7 @@ use Rattle.engine.specs.Steps.{destination}
 use Rattle.engine.specs.Ladder.{tickNumber, accessNumber, readOff, writeOff}
 use Rattle.engine.specs.Calls as calls
 use Rattle.engine.specs.Tables.{Inverse}
-use Rattle.engine.proofs.Facts.{Fit, steady, steady-passes, tick-facts, tick-all, inspect-all, fails-not, row-holds, slot-holds, wanting, accepts}
+use Rattle.engine.proofs.Facts.{Fit, steady, steady-passes, tick-facts, tick-not-9, inspect-not-9, fails-not, row-holds, slot-holds, wanting, accepts}
 use Rattle.engine.proofs.Pointers.{Sound}
 use Rattle.engine.proofs.Moves.{destination-in, rise-most}
 use Rattle.history.specs.Run.{Call, read, write, tick, inspect, step}
@@ -75,9 +74,8 @@ nine-good S σ (read r buffer) e =
 nine-good S σ (write r column bytes) e =
     let R = wanting S σ r (writeOff S column (length bytes)) e .reached in
     (R .row-in, ltb-false (S .w) (column + length bytes) (R .span-in))
-nine-good S σ tick e = absurd (tick-all (λ x. x ≢ 9) (λ z. omega arith) (λ z. omega arith) (λ z. omega arith) (λ z. omega arith) (λ z. omega arith) S σ e)
-nine-good S σ (inspect r) e =
-    absurd (inspect-all (λ x. x ≢ 9) (λ z. omega arith) (λ z. omega arith) (λ z. omega arith) (λ z. omega arith) (λ z. omega arith) (λ z. omega arith) (λ z. omega arith) S σ r e)
+nine-good S σ tick e = absurd (tick-not-9 S σ e)
+nine-good S σ (inspect r) e = absurd (inspect-not-9 S σ r e)
 
 pub nine-is-good : NineIsGood
 nine-is-good S σ c e = nine-good S σ c (sym (step-number S σ c) ∙ e)

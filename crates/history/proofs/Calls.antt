@@ -22,7 +22,7 @@ use Rattle.engine.specs.Steps.{place, moves, destination, move, stateAfter}
 use Rattle.engine.specs.Ladder.{pointsBack, rowNumber, tickNumber, inspectNumber, accessNumber, readOff, writeOff}
 use Rattle.engine.specs.Calls as calls
 use Rattle.engine.proofs.Rungs.{passes, ladder-all}
-use Rattle.engine.proofs.Facts.{steady-passes, tick-passes, tick-all, inspect-all, row-all, late-all, row-passes, row-holds, slot-holds, Accepted, accepted, Wanting, wanting}
+use Rattle.engine.proofs.Facts.{steady-passes, tick-passes, tick-not-9, inspect-not-9, row-all, late-all, row-passes, row-holds, slot-holds, Accepted, accepted, Wanting, wanting}
 use Rattle.engine.proofs.Window.{gone-none}
 use Rattle.engine.proofs.Pointers.{Sound, place-in}
 use Rattle.engine.proofs.Moves.{destination-in}
@@ -167,9 +167,8 @@ module _ (S : Settings) (σ : State) (τ₀ τ : tally.Tally) (I : Inv S σ τ�
   ladder-not-9 : 2 * (S .l / S .a) ≤ S .q → (c : Call) → ladder S σ c ≡ 9 → ⊥
   ladder-not-9 enough (read r buffer) e = access-not-9 enough r (readOff S (length buffer)) e
   ladder-not-9 enough (write r column bytes) e = access-not-9 enough r (writeOff S column (length bytes)) e
-  ladder-not-9 enough tick e = tick-all (λ x. x ≢ 9) (λ z. omega arith) (λ z. omega arith) (λ z. omega arith) (λ z. omega arith) (λ z. omega arith) S σ e
-  ladder-not-9 enough (inspect r) e =
-      inspect-all (λ x. x ≢ 9) (λ z. omega arith) (λ z. omega arith) (λ z. omega arith) (λ z. omega arith) (λ z. omega arith) (λ z. omega arith) (λ z. omega arith) S σ r e
+  ladder-not-9 enough tick e = tick-not-9 S σ e
+  ladder-not-9 enough (inspect r) e = inspect-not-9 S σ r e
 
   pub not-9 : 2 * (S .l / S .a) ≤ S .q → (c : Call) → (step S σ c) .answer .number ≡ 9 → ⊥
   not-9 enough c e = ladder-not-9 enough c (sym (step-number S σ c) ∙ e)
