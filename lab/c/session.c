@@ -1,31 +1,25 @@
-/* Document 01's session through the header: each answer is compared with the line that document 01 prints for it. */
+/* A whole caller of the engine, through the header. It makes the steps of a trace file on standard input and prints a
+ * line for each, as the trace program does; lab/c/run gives it document 01's session and compares the lines. Then it
+ * writes and inspects a row, and asks for the sizing sums. It says which answers are wrong, and then fails. */
 #include <stdio.h>
 #include <string.h>
 
 #include "aqua.h"
 
-enum { N = 4, Q = 2, W = 1, K = 2, STEPS = 17, TICK = 65535 };
-
-static const uint32_t steps[STEPS] = {1, 1, 1, 1, 1, 1, TICK, 1, 1, 2, 2, 3, TICK, 3, 3, 2, 2};
-
-/* Document 01, 'Trace program'. */
-static const char *const printed[STEPS] = {
-    "1 0 1 - -", "2 0 1 0 -",   "3 0 4 - -",   "4 0 4 1 -",   "5 0 5 - -",   "6 8 - - -",
-    "7 0 - - -", "8 0 5 - -",   "9 0 5 0 -",   "10 0 2 - -",  "11 0 2 1 -",  "12 0 3 - -",
-    "13 0 - - -", "14 0 3 - -", "15 0 3 0 1", "16 0 5 - -", "17 9 - - -",
-};
+/* The memory that is lent has the session's sizes; set-up answers 3 to settings that ask for others. */
+enum { N = 4, Q = 2, W = 1, K = 2, TICK = 65535 };
 
 static uint8_t store[(N + Q) * W];
 static uint16_t forward[N], reverse[Q], rows[K];
 static uint32_t counts[K];
 static aqua_control control;
-static const aqua_settings settings = {N, Q, W, K, 2, 5};
+static aqua_settings settings;
 static int failures;
 
 static void expect(int right, const char *what) {
     if (!right) {
         failures++;
-        printf("wrong: %s\n", what);
+        fprintf(stderr, "wrong: %s\n", what);
     }
 }
 
@@ -47,33 +41,37 @@ static aqua_span inspect_span(uint32_t row) {
 }
 
 /* a number, or a dash for none */
-static void field(char *line, size_t size, int some, uint64_t value) {
-    size_t at = strlen(line);
+static void field(int some, uint64_t value) {
     if (some)
-        snprintf(line + at, size - at, " %llu", (unsigned long long)value);
+        printf(" %llu", (unsigned long long)value);
     else
-        snprintf(line + at, size - at, " -");
+        printf(" -");
 }
 
+/* a trace file: 6 and the settings, then a count of steps, each a row to read or TICK */
 static void session(void) {
+    uint32_t count = 0, step = 0, row;
+    expect(scanf(" 6 %u %u %u %u %u %u %u", &settings.n, &settings.q, &settings.w, &settings.k, &settings.a,
+                 &settings.l, &count) == 7, "a trace file begins with the settings and a count");
     memset(forward, 7, sizeof forward); /* garbage, of which set-up leaves nothing */
     memset(counts, 7, sizeof counts);
     memset(&control, 7, sizeof control);
     expect(set_up(settings) == 0, "set-up is accepted");
-    for (int i = 0; i < STEPS; i++) {
-        char line[64];
-        uint8_t buffer[W];
-        if (steps[i] == TICK) {
-            snprintf(line, sizeof line, "%d %u - - -", i + 1, tick());
+    while (scanf("%u", &row) == 1) {
+        printf("%u", ++step);
+        if (row == TICK) {
+            printf(" %u - - -\n", tick());
         } else {
-            aqua_outcome o = read_row(steps[i], buffer);
-            snprintf(line, sizeof line, "%d %u", i + 1, o.number);
-            field(line, sizeof line, o.number == 0, o.place);
-            field(line, sizeof line, o.slot != AQUA_NONE, o.slot);
-            field(line, sizeof line, o.row != AQUA_NONE, o.row);
+            uint8_t buffer[W];
+            aqua_outcome o = read_row(row, buffer);
+            printf(" %u", o.number);
+            field(o.number == 0, o.place);
+            field(o.slot != AQUA_NONE, o.slot);
+            field(o.row != AQUA_NONE, o.row);
+            printf("\n");
         }
-        expect(strcmp(line, printed[i]) == 0, printed[i]);
     }
+    expect(step == count, "a trace file has as many steps as it says");
 }
 
 /* what is written is read back, wherever the row has gone */
@@ -116,6 +114,5 @@ int main(void) {
     session();
     bytes();
     sums();
-    printf(failures == 0 ? "session: %d lines as document 01 prints them\n" : "session: FAILED\n", STEPS);
     return failures != 0;
 }

@@ -1,41 +1,123 @@
-// Runs the cases of document 01 that are not proved as a table on the engine, and compares with what document 01 says.
-// Each group of cases writes a line, in which its wrong cases are told. The figures are worked out by hand from the
-// sentences that the comments cite, which are document 01's.
-mod arguments;
+// Runs a script of cases on the engine, and prints what differs, by the line of the script. The script that stands beside this
+// program, `stdin`, has document 01's cases, and says how a script is written.
+ghost use mathlib.Core.Path.{_≡_};
+ghost use lib.ListN.{length};
+use geometry::Settings;
+use libc::STDIN_FILENO;
+use report::Case;
+use script::Numbers;
+use script::Scan;
+
 mod bench;
-mod build;
-mod control;
-mod epoch;
-mod every;
+mod expect;
+mod lines;
+mod memory;
 mod order;
-mod pointers;
-mod quarantine;
 mod report;
-mod same;
-mod session;
-mod settings;
-mod sums;
-mod threshold;
-mod tracked;
+mod script;
+
+// A script has at most so many bytes.
+const MOST: usize = 262144;
+
+// One byte more, so that a longer script is seen to be longer.
+fn text_buffer() -> [u8; 262145]
+    ensures { λ r. ⌜ 262145 ≡ length r ⌝ }
+{
+    [0u8; 262145]
+}
+
+// The script as far as it is read, and the line that is read.
+struct Reading {
+    case: Case,
+    scan: Scan,
+}
+
+// Before the first line.
+fn begin() -> Case {
+    let m = memory::new(Settings {
+        n: 0,
+        q: 0,
+        w: 0,
+        k: 0,
+        a: 0,
+        l: 0,
+    });
+    Case {
+        now: m,
+        before: m,
+        ready: false,
+        answer: [0u64; 5],
+        called: 0,
+        said: [false; 8],
+        line: 1,
+        name: 0,
+        name_end: 0,
+        cases: 0,
+        wrong: 0,
+        all_cases: 0,
+        all_wrong: 0,
+        stopped: false,
+    }
+}
+
+// The line ends before index i.
+fn end_line(text: &[u8], numbers: &mut Numbers, r: Reading, i: usize) -> Reading {
+    let c = r.case;
+    let s = script::end_item(numbers, r.scan, i);
+    let d = if s.good & (s.verb == script::NONE) {
+        c
+    } else {
+        lines::line(text, numbers, c, s, i)
+    };
+    let mut e = d;
+    e.line = std::num::wrapping_add_u64(d.line, 1);
+    Reading {
+        case: e,
+        scan: Scan::START,
+    }
+}
+
+// The byte at index i.
+fn byte(text: &[u8], numbers: &mut Numbers, r: Reading, i: usize, b: u8) -> Reading {
+    if b == 10 {
+        return end_line(text, numbers, r, i);
+    }
+    let c = r.case;
+    Reading {
+        case: c,
+        scan: script::eat(numbers, r.scan, b, i),
+    }
+}
+
+// Every line, to the end of the script or to one that is refused.
+fn run(text: &[u8], numbers: &mut Numbers) -> Case {
+    let mut r = Reading {
+        case: begin(),
+        scan: Scan::START,
+    };
+    let mut i: usize = 0;
+    while i < text.len() {
+        r = byte(text, numbers, r, i, text[i]);
+        i += 1;
+        if r.case.stopped {
+            return r.case;
+        }
+    }
+    let last = end_line(text, numbers, r, i);
+    last.case
+}
 
 fn main() {
-    let t = report::none();
-    let t = settings::set_up(t);
-    let t = settings::ranges(t);
-    let t = settings::together(t);
-    let t = settings::lengths(t);
-    let t = control::run(t);
-    let t = arguments::rows(t);
-    let t = arguments::span(t);
-    let t = pointers::rows(t);
-    let t = pointers::destinations(t);
-    let t = quarantine::run(t);
-    let t = tracked::run(t);
-    let t = threshold::run(t);
-    let t = epoch::tick(t);
-    let t = epoch::inspect(t);
-    let t = session::run(t);
-    let t = order::run(t);
-    let t = sums::run(t);
-    report::total(t);
+    let mut text = text_buffer();
+    let count = io::read_full(STDIN_FILENO, &mut text);
+    let mut numbers = [0u64; 512];
+    let c = run(&text[..count], &mut numbers);
+    if c.stopped {
+        return;
+    }
+    if MOST < count {
+        report::refuse(c, b"the script is too long");
+        return;
+    }
+    report::total(report::end_group(&text[..count], c));
 }

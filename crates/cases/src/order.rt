@@ -4,116 +4,120 @@
 //   defects of row 1 beside a call for row 4;
 // - acts > L and acts = L exclude each other, so here the 4 that stands with 8 is a count above acts;
 // - the two 7s have one number, and their order shows only against 8 and 9.
-// N 4, Q 2, W 2, K 2, A 2, L 5; row 1 is due, and slot 0 is `head`.
-use crate::bench;
-use crate::bench::Memory;
-use crate::build;
-use crate::build::NONE;
-use crate::every;
-use crate::report;
-use crate::report::Tally;
+// N 4, Q 2, W 2, K 2, A 2, L 5; row 1 is due, and slot 0 is `head`. The store's byte i is i + 1.
+use crate::lines;
+use crate::memory;
+use crate::memory::Memory;
+use crate::report::Case;
+use crate::script;
+use geometry::Settings;
 
 // The defects, by bits.
-const RANGE: u32 = 1;
+const RANGE: u64 = 1;
 
-const LIMIT: u32 = 2;
+const LIMIT: u64 = 2;
 
-const LENGTH: u32 = 4;
+const LENGTH: u64 = 4;
 
-const COUNT: u32 = 8;
+const COUNT: u64 = 8;
 
-const ROW: u32 = 16;
+const ROW: u64 = 16;
 
-const SPAN: u32 = 32;
+const SPAN: u64 = 32;
 
-const POINTER: u32 = 64;
+const POINTER: u64 = 64;
 
-const EPOCH: u32 = 128;
+const EPOCH: u64 = 128;
 
-const SLOTS: u32 = 256;
+const SLOTS: u64 = 256;
 
-const TARGET: u32 = 512;
+const TARGET: u64 = 512;
 
-fn has(defects: u32, one: u32) -> bool {
+fn has(defects: u64, one: u64) -> bool {
     defects & one != 0
 }
 
-fn choose(test: bool, yes: u32, no: u32) -> u32 {
+fn choose(test: bool, yes: u64, no: u64) -> u64 {
     if test { yes } else { no }
 }
 
-// 1: Q = 1, with a store and a reverse table for it. 2: L = 6 = A × (K + 1). 3: the store is one byte short.
-fn fitted(defects: u32) -> Memory {
-    let q = choose(has(defects, RANGE), 1, 2);
-    let full = choose(has(defects, RANGE), 10, 12);
-    let short = choose(has(defects, RANGE), 9, 11);
-    let store = choose(has(defects, LENGTH), short, full);
-    let l = choose(has(defects, LIMIT), 6, 5);
-    build::clean(4, q, 2, 2, 2, l, store as usize)
+// 1: Q = 1. 2: L = 6 = A × (K + 1). 3: the store is one byte short.
+fn fitted(defects: u64) -> Memory {
+    let q: u32 = if has(defects, RANGE) { 1 } else { 2 };
+    let l: u32 = if has(defects, LIMIT) { 6 } else { 5 };
+    let m = memory::new(Settings {
+        n: 4,
+        q: q,
+        w: 2,
+        k: 2,
+        a: 2,
+        l: l,
+    });
+    if has(defects, LENGTH) {
+        return lines::with_length(
+            m,
+            memory::STORE,
+            choose(has(defects, RANGE), 9, 11) as usize,
+        );
+    }
+    m
 }
 
 // 8: acts = L, else 1. 9: passed = Q, else 0.
-fn counted(m: Memory, defects: u32) -> Memory {
-    let acts = choose(has(defects, EPOCH), m.settings.l, 1);
-    let passed = choose(has(defects, SLOTS), m.settings.q, 0);
-    build::with_control(m, 0, passed, 0, acts)
+fn counted(m: Memory, defects: u64) -> Memory {
+    let acts = choose(has(defects, EPOCH), m.settings.l as u64, 1);
+    let passed = choose(has(defects, SLOTS), m.settings.q as u64, 0);
+    memory::with_element(
+        memory::with_element(m, memory::CONTROL, 1, passed),
+        memory::CONTROL,
+        3,
+        acts,
+    )
+}
+
+// A tracker entry names a place, with a count.
+fn tracked(m: Memory, i: usize, place: u64, count: u64) -> Memory {
+    memory::with_element(
+        memory::with_element(m, memory::ROWS, i, place),
+        memory::COUNTS,
+        i,
+        count,
+    )
 }
 
 // 7: row 1's forward entry is slot 1, whose reverse entry is 65535; its place is physical row 5 then.
-fn pointed(m: Memory, defects: u32) -> Memory {
+fn pointed(m: Memory, defects: u64) -> Memory {
     if has(defects, POINTER) {
-        return build::with_entry(build::with_forward(m, 1, 1), 0, 5, 1);
+        return tracked(memory::with_element(m, memory::FORWARD, 1, 1), 0, 5, 1);
     }
-    build::with_entry(m, 0, 1, 1)
+    tracked(m, 0, 1, 1)
 }
 
-// 7 again: slot 0's reverse entry is N. 4: the second count is above acts.
-fn targeted(m: Memory, defects: u32) -> Memory {
+// 7 again: slot 0's reverse entry is N.
+fn targeted(m: Memory, defects: u64) -> Memory {
     if has(defects, TARGET) {
-        return build::with_reverse(m, 0, 4);
+        return memory::with_element(m, memory::REVERSE, 0, 4);
     }
     m
 }
 
-fn overcounted(m: Memory, defects: u32) -> Memory {
+// 4: the second count is above acts.
+fn overcounted(m: Memory, defects: u64) -> Memory {
     if has(defects, COUNT) {
-        return build::with_entry(m, 1, 2, 100);
+        return tracked(m, 1, 2, 100);
     }
     m
 }
 
-fn memory(defects: u32) -> Memory {
-    let m = counted(fitted(defects), defects);
-    let m = targeted(pointed(m, defects), defects);
-    overcounted(m, defects)
+fn lent(defects: u64) -> Memory {
+    overcounted(
+        targeted(pointed(counted(fitted(defects), defects), defects), defects),
+        defects,
+    )
 }
 
-// 5: the row is N.
-fn row(defects: u32) -> u32 {
-    choose(has(defects, ROW), 4, 1)
-}
-
-// The number of the first defect; 0 of none.
-fn first(defects: u32) -> u32 {
-    if has(defects, RANGE) {
-        return 1;
-    }
-    if has(defects, LIMIT) {
-        return 2;
-    }
-    if has(defects, LENGTH) {
-        return 3;
-    }
-    if has(defects, COUNT) {
-        return 4;
-    }
-    if has(defects, ROW) {
-        return 5;
-    }
-    later(defects)
-}
-
-fn later(defects: u32) -> u32 {
+// The number of the first defect from 6 on; 0 of none.
+fn later(defects: u64) -> u64 {
     if has(defects, SPAN) {
         return 6;
     }
@@ -132,82 +136,183 @@ fn later(defects: u32) -> u32 {
     0
 }
 
-// Case: a read. 6: a buffer of 3 bytes. With no defect row 1 moves to slot 0.
-fn read(t: Tally, m: Memory, defects: u32) -> Tally {
-    let mut m = m;
-    let span = choose(has(defects, SPAN), 3, 2);
-    m.span = span as usize;
-    let step = bench::read(m, row(defects));
-    let number = first(defects);
-    if number == 0 {
-        return report::answer_is(t, step, 1, 0, NONE);
+// The number of the first defect; 0 of none.
+fn first(defects: u64) -> u64 {
+    if has(defects, RANGE) {
+        return 1;
     }
-    report::refused(t, m, step, number)
+    if has(defects, LIMIT) {
+        return 2;
+    }
+    if has(defects, LENGTH) {
+        return 3;
+    }
+    if has(defects, COUNT) {
+        return 4;
+    }
+    if has(defects, ROW) {
+        return 5;
+    }
+    later(defects)
 }
 
-// Case: a write of one byte. 6: at column 2.
-fn write(t: Tally, m: Memory, defects: u32) -> Tally {
-    let column = choose(has(defects, SPAN), 2, 0);
-    let step = bench::write(m, row(defects), column as usize, [99u8; 8], 1);
-    let number = first(defects);
-    if number == 0 {
-        return report::answer_is(t, step, 1, 0, NONE);
-    }
-    report::refused(t, m, step, number)
+// 5: the row is N.
+fn row(defects: u64) -> u64 {
+    choose(has(defects, ROW), 4, 1)
 }
 
-// Case: a tick, 'not set-up, sizing' being the calls of 4. Accepted, it leaves a new tracker and the rest.
-fn tick(t: Tally, m: Memory, defects: u32) -> Tally {
-    let step = bench::tick(m);
-    let number = first(defects & (RANGE | LIMIT | LENGTH | COUNT));
-    if number == 0 {
-        let expected = build::with_entry(build::with_control(m, 0, 0, 0, 0), 0, NONE, 0);
-        return report::memory_is(t, step, expected);
-    }
-    report::refused(t, m, step, number)
+// A new tracker, and `passed`, `spill` and `acts` 0.
+fn ticked(m: Memory) -> Memory {
+    let n = tracked(tracked(m, 0, 65535, 0), 1, 65535, 0);
+    memory::with_element(
+        memory::with_element(n, memory::CONTROL, 1, 0),
+        memory::CONTROL,
+        3,
+        0,
+    )
+}
+
+// Row 1 is accessed and moves to slot 0, its first byte being this: slot 0 is bytes 8 and 9 of the store.
+fn moved(m: Memory, byte: u64) -> Memory {
+    let n = memory::with_element(
+        memory::with_element(m, memory::STORE, 2, byte),
+        memory::STORE,
+        8,
+        byte,
+    );
+    let n = tracked(memory::with_element(n, memory::STORE, 9, 4), 0, 1, 2);
+    let n = memory::with_element(
+        memory::with_element(n, memory::FORWARD, 1, 0),
+        memory::REVERSE,
+        0,
+        1,
+    );
+    let n = memory::with_element(
+        memory::with_element(n, memory::CONTROL, 0, 1),
+        memory::CONTROL,
+        1,
+        1,
+    );
+    memory::with_element(n, memory::CONTROL, 3, 2)
+}
+
+// The buffer holds the bytes of row 1.
+fn filled(m: Memory) -> Memory {
+    memory::with_element(
+        memory::with_element(m, memory::BUFFER, 0, 3),
+        memory::BUFFER,
+        1,
+        4,
+    )
 }
 
 // Case: a set-up, which judges 1 to 3. Accepted, it leaves everything but the store new.
-fn set_up(t: Tally, m: Memory, defects: u32) -> Tally {
-    let step = bench::set_up(m);
+fn set_up(c: Case, m: Memory, defects: u64) -> Case {
     let number = first(defects & (RANGE | LIMIT | LENGTH));
-    if number == 0 {
-        return report::memory_is(t, step, build::small());
-    }
-    report::refused(t, m, step, number)
+    lines::answers(
+        c,
+        m,
+        script::SET_UP,
+        0,
+        0,
+        [number, 0, 65535, 65535, 0],
+        memory::new(m.settings),
+    )
 }
 
-// Case: an inspect, which judges 1 to 5 and the row's 7.
-fn inspect(t: Tally, m: Memory, defects: u32) -> Tally {
-    let seen = bench::inspect(m, row(defects));
+// Case: a tick, 'not set-up, sizing' being the calls of 4.
+fn tick(c: Case, m: Memory, defects: u64) -> Case {
+    let number = first(defects & (RANGE | LIMIT | LENGTH | COUNT));
+    lines::answers(
+        c,
+        m,
+        script::TICK,
+        0,
+        0,
+        [number, 0, 65535, 65535, 0],
+        ticked(m),
+    )
+}
+
+// Case: an inspect, which judges 1 to 5 and the row's 7. Its part has W bytes.
+fn inspect(c: Case, m: Memory, defects: u64) -> Case {
     let number = first(defects & (RANGE | LIMIT | LENGTH | COUNT | ROW | POINTER));
-    every::seen_number(t, m, seen, number)
+    let length = choose(number == 0, 2, 0);
+    lines::answers(
+        c,
+        m,
+        script::INSPECT,
+        row(defects),
+        0,
+        [number, 0, 65535, 65535, length],
+        m,
+    )
+}
+
+// The answer of an access with that number: row 1 is at its home, and moves to slot 0.
+fn access_answer(number: u64) -> [u64; 5] {
+    if number == 0 {
+        return [0, 1, 0, 65535, 0];
+    }
+    [number, 0, 65535, 65535, 0]
+}
+
+// Case: a read. 6: a buffer of 3 bytes.
+fn read(c: Case, m: Memory, defects: u64) -> Case {
+    let number = first(defects);
+    let n = lines::with_length(m, memory::BUFFER, choose(has(defects, SPAN), 3, 2) as usize);
+    lines::answers(
+        c,
+        n,
+        script::READ,
+        row(defects),
+        0,
+        access_answer(number),
+        filled(moved(n, 3)),
+    )
+}
+
+// Case: a write of one byte, 99. 6: at column 2.
+fn write(c: Case, m: Memory, defects: u64) -> Case {
+    let number = first(defects);
+    let n = lines::with_length(
+        memory::with_element(m, memory::BYTES, 0, 99),
+        memory::BYTES,
+        1,
+    );
+    let column = choose(has(defects, SPAN), 2, 0);
+    lines::answers(
+        c,
+        n,
+        script::WRITE,
+        row(defects),
+        column,
+        access_answer(number),
+        moved(n, 99),
+    )
 }
 
 // Five cases: one set of defects.
-fn set_of(t: Tally, defects: u32) -> Tally {
-    let m = memory(defects);
-    let t = set_up(t, m, defects);
-    let t = tick(t, m, defects);
-    let t = inspect(t, m, defects);
-    let t = read(t, m, defects);
-    write(t, m, defects)
+fn set_of(c: Case, defects: u64) -> Case {
+    let m = lent(defects);
+    write(
+        read(
+            inspect(tick(set_up(c, m, defects), m, defects), m, defects),
+            m,
+            defects,
+        ),
+        m,
+        defects,
+    )
 }
 
-// Each set of the ten defects, as the bits of a number.
-fn sets(t: Tally) -> Tally {
-    let mut u = t;
-    let mut defects: u32 = 0;
+// Each set of the ten defects, as the bits of a number: 1024 sets × 5 calls = 5120 cases.
+pub fn run(c: Case) -> Case {
+    let mut d = c;
+    let mut defects: u64 = 0;
     while defects < 1024 {
-        u = set_of(u, defects);
+        d = set_of(d, defects);
         defects += 1;
     }
-    u
-}
-
-// 1024 sets × 5 calls = 5120 cases.
-pub fn run(t: Tally) -> Tally {
-    let t = report::begin(t, b"order");
-    let t = sets(t);
-    report::end(t)
+    d
 }

@@ -2,11 +2,11 @@
 use mathlib.Core.Path.{refl}
 use Rattle.geometry.specs.Lists.{every}
 use Rattle.sizing.specs.Sums.{leastSize, mostActivations, sizeRangesHold, activationRangesHold}
-use Rattle.trace_file.specs.Numbers.{numbersFrom, readableFrom}
+use Rattle.number_text.specs.Numbers.{numbersFrom, readableFrom}
 use Rattle.trace_file.specs.Form.{hasSections, traceIn}
 use Rattle.page.specs.Decimal.{decimalWithin}
-use Rattle.lines.specs.Lines.{lineBytes}
-use Rattle.replay.specs.Steps.{linesFrom}
+use Rattle.line_text.specs.LineText.{lineBytes}
+use Rattle.trace_steps.specs.Steps.{linesFrom}
 use Rattle.engine.specs.Ladder.{settingsNumber}
 use Rattle.replay.specs.Replay.{played, replayed}
 use Rattle.computed.specs.Cases.{holds, AllHold}

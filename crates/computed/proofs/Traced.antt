@@ -2,16 +2,17 @@
 use Prim.Native.Nat.{ℕ}
 use mathlib.Core.List.{List}
 use Rattle.geometry.specs.declared.Settings.{Settings}
-use Rattle.geometry.specs.Conditions.{rangesHold, limitHolds, storeHolds, lengthsHold}
-use Rattle.tracker.specs.Scan.{lowest, some}
-use Rattle.tracker.specs.Track.{track}
-use Rattle.row_bytes.specs.Bytes.{copied}
-use Rattle.engine.specs.Steps.{destinationFrom, riseFrom, move}
-use Rattle.engine.specs.Ladder.{stops, _▹_, settingsNumber, fitNumber, controlUnsound, pointsBack, rowNumber, quarantineNumber, lateNumber}
+use Rattle.conditions.specs.Conditions.{rangesHold, limitHolds, storeHolds, lengthsHold}
+use Rattle.scan.specs.Scan.{lowest, some}
+use Rattle.tracking.specs.Track.{track}
+use Rattle.row_layout.specs.Bytes.{copied}
+use Rattle.engine.specs.Steps.{destinationFrom, riseTo, move}
+use Rattle.engine.specs.Ladder.{stops, _▹_, settingsNumber, fitNumber, ringUnsound, trackerUnsound, controlUnsound, pointsBack, rowNumber, quarantineNumber, lateNumber}
 use Rattle.engine.specs.Ladder.{tickNumber, accessNumber}
 use Rattle.engine.specs.Calls as calls
 use Rattle.history.specs.Run.{Event, step}
-use Rattle.replay.specs.Steps.{lent, stepsFrom}
+use Rattle.trace_steps.specs.Steps.{stepsFrom}
+use Rattle.replay.specs.Memory.{lent}
 
 -- the number that set-up answers
 abbrev pub setUpAnswers : Settings → ℕ
@@ -20,6 +21,6 @@ setUpAnswers S = (calls.setUp S (lent S)) .number
 -- the steps after set-up, with their answers; `unfolding traced` opens all that is named here
 unfoldable pub traced : Settings → List ℕ → List Event
 unfolding calls.setUp calls.noted calls.tick calls.read calls.accessed step stepsFrom
-    lowest some track copied destinationFrom riseFrom move stops _▹_ settingsNumber fitNumber rowNumber quarantineNumber lateNumber tickNumber accessNumber
-    rangesHold limitHolds storeHolds lengthsHold controlUnsound pointsBack
-traced S steps = stepsFrom S ((calls.setUp S (lent S)) .state) (S .w) steps
+    lowest some track copied destinationFrom riseTo move stops _▹_ settingsNumber fitNumber rowNumber quarantineNumber lateNumber tickNumber accessNumber
+    rangesHold limitHolds storeHolds lengthsHold ringUnsound trackerUnsound controlUnsound pointsBack
+traced S steps = stepsFrom S ((calls.setUp S (lent S)) .state) steps

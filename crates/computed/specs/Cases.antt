@@ -9,12 +9,12 @@ use lib.Dec.{eqb}
 use Rattle.geometry.specs.declared.Settings.{Settings}
 use Rattle.geometry.specs.Lists.{every}
 use Rattle.sizing.specs.declared.RefreshTimes.{RefreshTimes}
-use Rattle.sizing.specs.declared.SizePair.{SizePair}
+use Rattle.size_table.specs.declared.SizePair.{SizePair}
 use Rattle.sizing.specs.Sums.{mostActivations}
-use Rattle.sizing.specs.Table.{sizes, gives, agrees}
+use Rattle.size_table.specs.Table.{sizes, gives, agrees}
 use Rattle.engine.specs.Calls.{setUp}
 use Rattle.page.specs.Ascii.{ascii}
-use Rattle.replay.specs.Steps.{lent}
+use Rattle.replay.specs.Memory.{lent}
 use Rattle.replay.specs.Replay.{replayed}
 
 pub data Case : Type 0 where

@@ -10,16 +10,17 @@ use lib.ListN.{length, getD}
 use borrow.Author.Tests.{ltb-true, ltb-false, leb-false, eqb-true, eqb-false, not-true, not-false, lt-ltb, le-ltb, lt-leb, eq-eqb, ne-eqb}
 use Rattle.geometry.specs.declared.Settings.{Settings}
 use Rattle.geometry.specs.declared.Control.{Control}
-use Rattle.geometry.specs.Conditions.{rangesHold, limitHolds, lengthsHold}
+use Rattle.geometry.specs.declared.Ring.{Ring}
+use Rattle.conditions.specs.Conditions.{rangesHold, limitHolds, lengthsHold}
 use Rattle.geometry.specs.Entry.{empty}
 use Rattle.geometry.proofs.Cases.{split}
-use Rattle.geometry.proofs.Facts.{Ranges}
+use Rattle.conditions.proofs.Facts.{Ranges}
 use Rattle.geometry.proofs.Tests.{and-left, and-right, or-left, or-right}
-use Rattle.tracker.specs.Scan.{some}
-use Rattle.tracker.proofs.Scans.{some-none}
-use Rattle.engine.specs.State.{State, lengthsOf, forwardOf, reverseOf}
+use Rattle.scan.specs.Scan.{some}
+use Rattle.scan.proofs.Scans.{some-none}
+use Rattle.engine.specs.State.{State, lengthsOf, ringOf, forwardOf, reverseOf}
 use Rattle.engine.specs.Steps.{place, moves, destinationFrom, destination, rise}
-use Rattle.engine.specs.Ladder.{settingsNumber, fitNumber, controlUnsound, pointsBack, rowNumber, quarantineNumber, lateNumber, setUpNumber, tickNumber, inspectNumber, accessNumber}
+use Rattle.engine.specs.Ladder.{settingsNumber, fitNumber, ringUnsound, trackerUnsound, controlUnsound, pointsBack, rowNumber, quarantineNumber, lateNumber, setUpNumber, tickNumber, inspectNumber, accessNumber}
 use Rattle.engine.proofs.Rungs.{pass, unmet, passes, goes-by, reach, only, past, stops-all, ladder-all, if-all, either}
 
 -- a row of the table whose condition is that a test fails
@@ -71,7 +72,7 @@ pub record Steady (S : Settings) (σ : State) : Type 0 where
   pub spill-below : σ .control .spill < S .a
 
 pub steady : (S : Settings) (σ : State) → controlUnsound S (σ .control) (σ .counts) ≡ false → Steady S σ
-unfolding controlUnsound
+unfolding controlUnsound ringUnsound trackerUnsound
 steady S σ h =
     record {
       head-in = leb-false (S .q) (σ .control .head) (search (or-left, or-right) depth 8);
@@ -82,11 +83,11 @@ steady S σ h =
     }
 
 pub none-above : (S : Settings) (control : Control) (counts : List ℕ) → controlUnsound S control counts ≡ false → some (λ count. ltb (control .acts) count) counts ≡ false
-unfolding controlUnsound
+unfolding controlUnsound ringUnsound trackerUnsound
 none-above S control counts h = search (or-left, or-right) depth 8
 
 pub steady-passes : (S : Settings) (σ : State) → Steady S σ → ((i : ℕ) → i < length (σ .counts) → getD (σ .counts) i 0 ≤ σ .control .acts) → controlUnsound S (σ .control) (σ .counts) ≡ false
-unfolding controlUnsound
+unfolding controlUnsound ringUnsound trackerUnsound
 steady-passes S σ s counts =
     rw (
       lt-leb (S .q) (σ .control .head) (s .head-in),
@@ -168,19 +169,19 @@ unfolding tickNumber
 tick-all P p0 p1 p2 p3 p4 S σ = ladder-all P _ _ (fit-all P p0 p1 p2 p3 S σ) (λ e. stops-all P _ 4 p0 (λ e. p4))
 
 -- where a row with 6 or 7 can apply at all
-pub row-all : (P : ℕ → Type 0) → P 0 → P 5 → (S : Settings) (forward reverse : List ℕ) (r : ℕ) (off : Bool) → (off ≡ true → P 6)
-    → (r < S .n → pointsBack (getD forward r empty) (S .q) reverse r ≡ false → P 7) → P (rowNumber S forward reverse r off)
+pub row-all : (P : ℕ → Type 0) → P 0 → P 5 → (S : Settings) (reverse : List ℕ) (entry r : ℕ) (off : Bool) → (off ≡ true → P 6)
+    → (r < S .n → pointsBack entry (S .q) reverse r ≡ false → P 7) → P (rowNumber S reverse entry r off)
 unfolding rowNumber
-row-all P p0 p5 S forward reverse r off p6 p7 =
+row-all P p0 p5 S reverse entry r off p6 p7 =
     ladder-all P _ _ (stops-all P _ 5 p0 (λ e. p5)) (λ row.
     ladder-all P _ _ (stops-all P _ 6 p0 p6) (λ f.
-    stops-all P _ 7 p0 (λ e. p7 (leb-false (S .n) r (unmet _ _ row)) (not-true (pointsBack (getD forward r empty) (S .q) reverse r) e))))
+    stops-all P _ 7 p0 (λ e. p7 (leb-false (S .n) r (unmet _ _ row)) (not-true (pointsBack entry (S .q) reverse r) e))))
 
-pub late-all : (P : ℕ → Type 0) → P 0 → P 8 → P 9 → (S : Settings) (control : Control) (forward reverse : List ℕ) (entry : ℕ) (due : Bool)
-    → (let d : ℕ = destinationFrom S (control .head) entry in due ≡ true → pointsBack (getD reverse d empty) (S .n) forward d ≡ false → P 7)
-    → P (lateNumber S control forward reverse entry due)
+pub late-all : (P : ℕ → Type 0) → P 0 → P 8 → P 9 → (S : Settings) (ring : Ring) (acts : ℕ) (forward reverse : List ℕ) (entry : ℕ) (due : Bool)
+    → (let d : ℕ = destinationFrom S (ring .head) entry in due ≡ true → pointsBack (getD reverse d empty) (S .n) forward d ≡ false → P 7)
+    → P (lateNumber S ring acts forward reverse entry due)
 unfolding lateNumber quarantineNumber
-late-all P p0 p8 p9 S control forward reverse entry due p7 =
+late-all P p0 p8 p9 S ring acts forward reverse entry due p7 =
     ladder-all P _ _ (stops-all P _ 8 p0 (λ e. p8)) (λ e.
     if-all P due _ p0 (λ d.
     ladder-all P _ _ (stops-all P _ 9 p0 (λ k. p9)) (λ k.
@@ -190,14 +191,14 @@ pub access-all : (P : ℕ → Type 0) → P 0 → P 1 → P 2 → P 3 → P 4 �
 unfolding accessNumber
 access-all P p0 p1 p2 p3 p4 p5 p6 p7 p8 p9 S σ r off =
     ladder-all P _ _ (tick-all P p0 p1 p2 p3 p4 S σ) (λ e.
-    ladder-all P _ _ (row-all P p0 p5 S (σ .forward) (σ .reverse) r off (λ e. p6) (λ b e. p7)) (λ e.
-    late-all P p0 p8 p9 S (σ .control) (σ .forward) (σ .reverse) (forwardOf σ r) (moves S σ r) (λ d e. p7)))
+    ladder-all P _ _ (row-all P p0 p5 S (σ .reverse) (forwardOf σ r) r off (λ e. p6) (λ b e. p7)) (λ e.
+    late-all P p0 p8 p9 S (ringOf (σ .control)) (σ .control .acts) (σ .forward) (σ .reverse) (forwardOf σ r) (moves S σ r) (λ d e. p7)))
 
 pub inspect-all : (P : ℕ → Type 0) → P 0 → P 1 → P 2 → P 3 → P 4 → P 5 → P 7 → (S : Settings) (σ : State) (r : ℕ) → P (inspectNumber S σ r)
 unfolding inspectNumber
 inspect-all P p0 p1 p2 p3 p4 p5 p7 S σ r =
     ladder-all P _ _ (tick-all P p0 p1 p2 p3 p4 S σ) (λ e.
-    row-all P p0 p5 S (σ .forward) (σ .reverse) r false (λ e. absurd (false≢true e)) (λ b e. p7))
+    row-all P p0 p5 S (σ .reverse) (forwardOf σ r) r false (λ e. absurd (false≢true e)) (λ b e. p7))
 
 -- neither a tick nor an inspect is refused with 9
 pub tick-not-9 : (S : Settings) (σ : State) → tickNumber S σ ≢ 9
@@ -208,18 +209,18 @@ inspect-not-9 S σ r = inspect-all (λ x. x ≢ 9) (λ z. omega arith) (λ z. om
 
 -- ---- 5, 6 and 7
 
-pub row-facts : (S : Settings) (forward reverse : List ℕ) (r : ℕ) (off : Bool) → rowNumber S forward reverse r off ≡ 0
-    → (r < S .n) × (off ≡ false) × (pointsBack (getD forward r empty) (S .q) reverse r ≡ true)
+pub row-facts : (S : Settings) (reverse : List ℕ) (entry r : ℕ) (off : Bool) → rowNumber S reverse entry r off ≡ 0
+    → (r < S .n) × (off ≡ false) × (pointsBack entry (S .q) reverse r ≡ true)
 unfolding rowNumber
-row-facts S forward reverse r off h =
+row-facts S reverse entry r off h =
     let p5 = pass _ _ h in
     let p6 = pass _ _ (p5 .1) in
-    (leb-false (S .n) r (unmet _ _ (p5 .0)), unmet _ _ (p6 .0), not-false (pointsBack (getD forward r empty) (S .q) reverse r) (unmet _ _ (p6 .1)))
+    (leb-false (S .n) r (unmet _ _ (p5 .0)), unmet _ _ (p6 .0), not-false (pointsBack entry (S .q) reverse r) (unmet _ _ (p6 .1)))
 
-pub row-passes : (S : Settings) (forward reverse : List ℕ) (r : ℕ) (off : Bool) → r < S .n → off ≡ false
-    → pointsBack (getD forward r empty) (S .q) reverse r ≡ true → rowNumber S forward reverse r off ≡ 0
+pub row-passes : (S : Settings) (reverse : List ℕ) (entry r : ℕ) (off : Bool) → r < S .n → off ≡ false
+    → pointsBack entry (S .q) reverse r ≡ true → rowNumber S reverse entry r off ≡ 0
 unfolding rowNumber
-row-passes S forward reverse r off row-in span-in back =
+row-passes S reverse entry r off row-in span-in back =
     passes (goes-by 5 (lt-leb (S .n) r row-in)) (passes (goes-by 6 span-in) (goes-by 7 (fails-not back)))
 
 -- ---- an inspect of row r
@@ -228,7 +229,7 @@ pub inspect-facts : (S : Settings) (σ : State) (r : ℕ) → inspectNumber S σ
 unfolding inspectNumber
 inspect-facts S σ r h =
     let p = pass _ _ h in
-    let f = row-facts S (σ .forward) (σ .reverse) r false (p .1) in
+    let f = row-facts S (σ .reverse) (forwardOf σ r) r false (p .1) in
     (p .0, f .0, f .2)
 
 -- ---- an access of row r
@@ -245,14 +246,14 @@ pub record Reached (S : Settings) (σ : State) (r : ℕ) (off : Bool) : Type 0 w
 -- past 9 and the destination's 7 too
 pub record Accepted (S : Settings) (σ : State) (r : ℕ) (off : Bool) : Type 0 where
   pub reached : Reached S σ r off
-  pub room : moves S σ r ≡ true → σ .control .passed + rise σ r ≤ S .q
+  pub room : moves S σ r ≡ true → σ .control .passed + rise S σ r ≤ S .q
   pub target : moves S σ r ≡ true → destinationHolds S σ (destination S σ r) ≡ true
 
 -- refused with 9
 pub record Wanting (S : Settings) (σ : State) (r : ℕ) (off : Bool) : Type 0 where
   pub reached : Reached S σ r off
   pub moving : moves S σ r ≡ true
-  pub full : S .q < σ .control .passed + rise σ r
+  pub full : S .q < σ .control .passed + rise S σ r
 
 -- rows that are looked at under a condition: they give 0,
 if-0 : (due : Bool) (x : ℕ) → cond due x 0 ≡ 0 → due ≡ true → x ≡ 0
@@ -268,31 +269,31 @@ if-more false x y n h = absurd (n (sym h))
 
 module _ (S : Settings) (σ : State) (r : ℕ) (off : Bool) where
   quarantine : ℕ
-  quarantine = quarantineNumber S (σ .control) (σ .forward) (σ .reverse) (forwardOf σ r)
+  quarantine = quarantineNumber S (ringOf (σ .control)) (σ .forward) (σ .reverse) (forwardOf σ r)
 
-  reached : tickNumber S σ ≡ 0 → rowNumber S (σ .forward) (σ .reverse) r off ≡ 0 → eqb (σ .control .acts) (S .l) ≡ false → Reached S σ r off
+  reached : tickNumber S σ ≡ 0 → rowNumber S (σ .reverse) (forwardOf σ r) r off ≡ 0 → eqb (σ .control .acts) (S .l) ≡ false → Reached S σ r off
   reached t row a =
       let f = tick-facts S σ t in
-      let g = row-facts S (σ .forward) (σ .reverse) r off row in
+      let g = row-facts S (σ .reverse) (forwardOf σ r) r off row in
       let most : σ .control .acts ≤ S .l = steady S σ (f .1) .acts-in in
       let n : σ .control .acts ≢ S .l = eqb-false (σ .control .acts) (S .l) a in
       record { fit = f .0; control = f .1; row-in = g .0; span-in = g .1; pointers = g .2; more = omega arith }
 
-  quarantine-facts : quarantine ≡ 0 → (σ .control .passed + rise σ r ≤ S .q) × (destinationHolds S σ (destination S σ r) ≡ true)
+  quarantine-facts : quarantine ≡ 0 → (σ .control .passed + rise S σ r ≤ S .q) × (destinationHolds S σ (destination S σ r) ≡ true)
   unfolding quarantineNumber quarantine
   quarantine-facts h =
       let p = pass _ _ h in
-      (ltb-false (S .q) (σ .control .passed + rise σ r) (unmet _ _ (p .0)), not-false (destinationHolds S σ (destination S σ r)) (unmet _ _ (p .1)))
+      (ltb-false (S .q) (σ .control .passed + rise S σ r) (unmet _ _ (p .0)), not-false (destinationHolds S σ (destination S σ r)) (unmet _ _ (p .1)))
 
-  quarantine-passes : σ .control .passed + rise σ r ≤ S .q → destinationHolds S σ (destination S σ r) ≡ true → quarantine ≡ 0
+  quarantine-passes : σ .control .passed + rise S σ r ≤ S .q → destinationHolds S σ (destination S σ r) ≡ true → quarantine ≡ 0
   unfolding quarantineNumber quarantine
-  quarantine-passes room back = passes (goes-by 9 (le-ltb (S .q) (σ .control .passed + rise σ r) room)) (goes-by 7 (fails-not back))
+  quarantine-passes room back = passes (goes-by 9 (le-ltb (S .q) (σ .control .passed + rise S σ r) room)) (goes-by 7 (fails-not back))
 
-  quarantine-9 : quarantine ≡ 9 → S .q < σ .control .passed + rise σ r
+  quarantine-9 : quarantine ≡ 9 → S .q < σ .control .passed + rise S σ r
   unfolding quarantineNumber quarantine
   quarantine-9 h =
       elim (reach _ _ _ h) [
-        | inl e ↦ ltb-true (S .q) (σ .control .passed + rise σ r) (only _ _ _ e .0)
+        | inl e ↦ ltb-true (S .q) (σ .control .passed + rise S σ r) (only _ _ _ e .0)
         | inr d ↦ absurd (let z : 7 ≡ 9 = only _ _ _ (d .1) .1 in omega arith)
       ]
 
@@ -315,7 +316,7 @@ module _ (S : Settings) (σ : State) (r : ℕ) (off : Bool) where
       let R : Reached S σ r off = A .reached in
       let acts-more : σ .control .acts < S .l = R .more in
       passes (tick-passes S σ (R .fit) (R .control))
-      (passes (row-passes S (σ .forward) (σ .reverse) r off (R .row-in) (R .span-in) (R .pointers))
+      (passes (row-passes S (σ .reverse) (forwardOf σ r) r off (R .row-in) (R .span-in) (R .pointers))
       (passes (goes-by 8 (ne-eqb (σ .control .acts) (S .l) (λ e. omega arith)))
       (if-passes (moves S σ r) quarantine (λ d. quarantine-passes (A .room d) (A .target d)))))
 
@@ -325,7 +326,7 @@ module _ (S : Settings) (σ : State) (r : ℕ) (off : Bool) where
       elim (reach _ _ _ h) [
         | inl e ↦ absurd (tick-not-9 S σ e)
         | inr c ↦ elim (reach _ _ _ (c .1)) [
-          | inl e ↦ absurd (row-all (λ x. x ≢ 9) (λ z. omega arith) (λ z. omega arith) S (σ .forward) (σ .reverse) r off (λ k z. omega arith) (λ b k z. omega arith) e)
+          | inl e ↦ absurd (row-all (λ x. x ≢ 9) (λ z. omega arith) (λ z. omega arith) S (σ .reverse) (forwardOf σ r) r off (λ k z. omega arith) (λ b k z. omega arith) e)
           | inr d ↦
               let p = past _ 7 _ 7 (λ z. omega arith) (d .1) in
               let m = if-more (moves S σ r) quarantine 9 (λ z. omega arith) (p .1) in

@@ -1,9 +1,10 @@
 -- What an accepted access leaves in all that is lent, told without its steps. Assumes nothing.
-use Prim.Native.Nat.{ℕ, _+_, _*_, _%_, _<_, _≤_}
+use Prim.Native.Nat.{ℕ, _+_, _-_, _*_, _%_, _<_, _≤_}
+use native.Mathlib.Nat.{mod-eq-of-lt, mod-lt, mod-self, add-mod-right}
 use native.Mathlib.Omega.{arith}
 use mathlib.Core.Path.{_≡_, refl, sym, ap, _∙_}
 use mathlib.Core.Logic.{inl, inr, _≢_}
-use mathlib.Core.Bool.{Bool, true, false}
+use mathlib.Core.Bool.{Bool, true, false, cond}
 use mathlib.Core.List.{List}
 use lib.Dec.{eqb}
 use lib.ListN.{length, set, length-set}
@@ -12,14 +13,14 @@ use Rattle.geometry.specs.declared.Settings.{Settings}
 use Rattle.geometry.specs.Numbering.{visible, slot}
 use Rattle.geometry.specs.Entry.{empty}
 use Rattle.geometry.proofs.Cases.{split}
-use Rattle.geometry.proofs.Facts.{Exact}
-use Rattle.tracker.proofs.View.{Counting, Tracks, tracks}
-use Rattle.row_bytes.specs.Bytes.{copied}
-use Rattle.row_bytes.proofs.Laws.{byteAt, length-copied, copied-to, copied-other}
+use Rattle.conditions.proofs.Facts.{Exact}
+use Rattle.tracking.proofs.View.{Counting, Tracks, tracks}
+use Rattle.row_layout.specs.Bytes.{copied}
+use Rattle.row_layout.proofs.Laws.{byteAt, length-copied, copied-to, copied-other}
 use Rattle.engine.specs.declared.Move.{Move}
 use Rattle.engine.specs.declared.Move.the-variants.{Stayed, ToSlot, OverSlot}
 use Rattle.engine.specs.State.{State, lengthsOf, forwardOf, reverseOf}
-use Rattle.engine.specs.Steps.{place, tracked, moves, destinationFrom, destination, riseFrom, rise, move, left, settled}
+use Rattle.engine.specs.Steps.{place, tracked, moves, destinationFrom, destination, riseTo, rise, move, left, settled}
 use Rattle.engine.proofs.Window.{Slide, slide-one, slide-more, next-is, next-in}
 use Rattle.engine.proofs.Pointers.{Sound, Relinked, marks-none, place-is, place-in, left-long, holder, relinked-to, relinked-over}
 
@@ -48,34 +49,56 @@ plan S σ r =
 abbrev pub own : State → ℕ → ℕ → Bool
 own σ r s = eqb (forwardOf σ r) s
 
-pub rise-from-most : (head entry : ℕ) → riseFrom head entry ≤ 2
-unfolding riseFrom
-rise-from-most head entry = elim (split (eqb entry head)) [ inl e ↦ rw e (omega arith) | inr e ↦ rw e (omega arith) ]
-
-pub rise-most : (σ : State) (r : ℕ) → rise σ r ≤ 2
-rise-most σ r = rise-from-most (σ .control .head) (forwardOf σ r)
-
 next-apart : (q h : ℕ) → h < q → 2 ≤ q → h ≢ (h + 1) % q
 next-apart q h b two e = elim (next-is q h b) [ inl c ↦ omega (arith, c .1) | inr c ↦ omega (arith, c .0, c .1) ]
 
-slide : (S : Settings) (σ : State) (r : ℕ) → 2 ≤ S .q → σ .control .head < S .q → σ .control .passed + rise σ r ≤ S .q
-    → Slide (own σ r) (S .q) (σ .control .head) (σ .control .passed) (destination S σ r) ((destination S σ r + 1) % S .q) (σ .control .passed + rise σ r)
-unfolding destinationFrom riseFrom
+-- 'by 1, or by 2 where a slot was passed'
+pub rise-is : (S : Settings) (head entry : ℕ) → 2 ≤ S .q → head < S .q → riseTo S head (destinationFrom S head entry) ≡ cond (eqb entry head) 2 1
+unfolding destinationFrom riseTo
+rise-is S head entry two b =
+    elim (split (eqb entry head)) [
+      | inl e ↦ elim (next-is (S .q) head b) [
+        | inl c ↦
+            let up : head + 1 + S .q - head ≡ 1 + S .q = omega arith in
+            let one : (1 + S .q) % S .q ≡ 1 = add-mod-right 1 (S .q) ∙ mod-eq-of-lt two in
+            rw (e, c .1, up, one)
+        | inr c ↦
+            let up : 0 + S .q - head ≡ 1 = omega (arith, c .0) in
+            let one : 1 % S .q ≡ 1 = mod-eq-of-lt two in
+            rw (e, c .1, up, one)
+      ]
+      | inr e ↦
+          let up : head + S .q - head ≡ S .q = omega arith in
+          rw (e, up, mod-self (S .q))
+    ]
+
+pub rise-in : (S : Settings) (head d : ℕ) → 1 ≤ S .q → riseTo S head d ≤ S .q
+unfolding riseTo
+rise-in S head d some = let below : (d + S .q - head) % S .q < S .q = mod-lt (d + S .q - head) some in omega arith
+
+pub rise-most : (S : Settings) (head entry : ℕ) → 2 ≤ S .q → head < S .q → riseTo S head (destinationFrom S head entry) ≤ 2
+rise-most S head entry two b =
+    rw (rise-is S head entry two b) (elim (split (eqb entry head)) [ inl e ↦ rw e (omega arith) | inr e ↦ rw e (omega arith) ])
+
+slide : (S : Settings) (σ : State) (r : ℕ) → 2 ≤ S .q → σ .control .head < S .q → σ .control .passed + rise S σ r ≤ S .q
+    → Slide (own σ r) (S .q) (σ .control .head) (σ .control .passed) (destination S σ r) ((destination S σ r + 1) % S .q) (σ .control .passed + rise S σ r)
+unfolding destinationFrom
 slide S σ r two b room =
+    let up : rise S σ r ≡ cond (eqb (forwardOf σ r) (σ .control .head)) 2 1 = rise-is S (σ .control .head) (forwardOf σ r) two b in
     let h : ℕ = σ .control .head in
     let m : ℕ = σ .control .passed in
     elim (split (eqb (forwardOf σ r) (σ .control .head))) [
       | inl e ↦
           let at : forwardOf σ r ≡ h = eqb-true (forwardOf σ r) h e in
           let free : own σ r ((h + 1) % S .q) ≡ false = rw at (ne-eqb h ((h + 1) % S .q) (next-apart (S .q) h b two)) in
-          let more : m + 2 ≤ S .q = rw e at room in
+          let more : m + 2 ≤ S .q = rw (up, e) at room in
           let two′ : m + 2 ≡ m + 1 + 1 = omega arith in
-          rw (e, two′)
+          rw (up, e, two′)
           (slide-more (own σ r) (S .q) h m ((h + 1) % S .q) (((h + 1) % S .q + 1) % S .q) (m + 1 + 1) b e
           (slide-one (own σ r) (S .q) ((h + 1) % S .q) (m + 1) (next-in (S .q) h b) (omega arith) free))
       | inr e ↦
-          let more : m + 1 ≤ S .q = rw e at room in
-          rw e (slide-one (own σ r) (S .q) h m b (omega arith) e)
+          let more : m + 1 ≤ S .q = rw (up, e) at room in
+          rw (up, e) (slide-one (own σ r) (S .q) h m b (omega arith) e)
     ]
 
 pub destination-from-in : (S : Settings) (head entry : ℕ) → head < S .q → destinationFrom S head entry < S .q
@@ -110,7 +133,7 @@ pub record Carried (S : Settings) (σ : State) (r d : ℕ) (store after : List �
 pub record Moved (S : Settings) (σ : State) (r : ℕ) (store : List ℕ) (d : ℕ) (σ′ : State) : Type 0 where
   pub slide : Slide (own σ r) (S .q) (σ .control .head) (σ .control .passed) d (σ′ .control .head) (σ′ .control .passed)
   pub head-in : σ′ .control .head < S .q
-  pub passed : σ′ .control .passed ≡ σ .control .passed + rise σ r
+  pub passed : σ′ .control .passed ≡ σ .control .passed + rise S σ r
   pub links : Relinked S σ r d (σ′ .forward) (σ′ .reverse)
   pub bytes : Carried S σ r d store (σ′ .store)
   pub lengths : Exact S (lengthsOf σ′)
@@ -135,8 +158,11 @@ module _ (S : Settings) (σ : State) (sound : Sound S σ) (r : ℕ) (row-in : r 
       elim (place-is S σ sound r row-in) [ inl a ↦ n (ap (forwardOf σ) (sym (a .1) ∙ e) ∙ at) | inr a ↦ omega (arith, a .1) ]
 
   module _ (T : Tracks (S .a) (S .k) (place S σ r) (σ .rows) (σ .counts) (σ .control .spill) (σ .control .acts) (tracked S σ r))
-      (store : List ℕ) (long : length store ≡ (S .n + S .q) * S .w) (d : ℕ)
-      (sl : Slide (own σ r) (S .q) (σ .control .head) (σ .control .passed) d ((d + 1) % S .q) (σ .control .passed + rise σ r)) where
+      (store : List ℕ) (long : length store ≡ (S .n + S .q) * S .w) (d : ℕ) (to : d ≡ destination S σ r)
+      (sl : Slide (own σ r) (S .q) (σ .control .head) (σ .control .passed) d ((d + 1) % S .q) (σ .control .passed + riseTo S (σ .control .head) d)) where
+    passed-is : σ .control .passed + riseTo S (σ .control .head) d ≡ σ .control .passed + rise S σ r
+    passed-is = ap (λ (x : ℕ). σ .control .passed + riseTo S (σ .control .head) x) to
+
     free : d ≢ forwardOf σ r
     free e = eqb-false (forwardOf σ r) d (sl .free) (sym e)
 
@@ -152,7 +178,7 @@ module _ (S : Settings) (σ : State) (sound : Sound S σ) (r : ℕ) (row-in : r 
         record {
           slide = sl;
           head-in = next-in (S .q) d (sl .inside);
-          passed = refl;
+          passed = passed-is;
           links = relinked-to S σ sound r row-in d (sl .inside) free vacant;
           bytes = record {
             target = copied-to (S .w) (S .n + S .q) store (place S σ r) (S .n + d) long p-in target-in;
@@ -189,7 +215,7 @@ module _ (S : Settings) (σ : State) (sound : Sound S σ) (r : ℕ) (row-in : r 
           record {
             slide = sl;
             head-in = next-in (S .q) d (sl .inside);
-            passed = refl;
+            passed = passed-is;
             links = relinked-over S σ sound r row-in d (sl .inside) free v held v-in back;
             bytes = record {
               target = λ c c-in.
@@ -217,18 +243,18 @@ module _ (S : Settings) (σ : State) (sound : Sound S σ) (r : ℕ) (row-in : r 
         → Moved S σ r store d (settled S σ r store (OverSlot (slot d) (visible v))) → Fate store (OverSlot (slot d) (visible v))
 
   module _ (T : Tracks (S .a) (S .k) (place S σ r) (σ .rows) (σ .counts) (σ .control .spill) (σ .control .acts) (tracked S σ r))
-      (head-in : σ .control .head < S .q) (room : moves S σ r ≡ true → σ .control .passed + rise σ r ≤ S .q)
+      (head-in : σ .control .head < S .q) (room : moves S σ r ≡ true → σ .control .passed + rise S σ r ≤ S .q)
       (store : List ℕ) (long : length store ≡ (S .n + S .q) * S .w) where
     by-plan : (m : Move) → Plan S σ r m → Fate store m
     by-plan m (rests e) = stays e
     by-plan m (fills e vacant) =
-        goes e (destination S σ r) vacant (moved-to T store long (destination S σ r) (slide S σ r (sound .ranges .q-low) head-in (room e)) vacant)
+        goes e (destination S σ r) vacant (moved-to T store long (destination S σ r) refl (slide S σ r (sound .ranges .q-low) head-in (room e)) vacant)
     by-plan m (evicts e full) =
         elim (sound .inverse .reverse (destination S σ r) (destination-in S σ r head-in)) [
           | inl z ↦ absurd (full z)
           | inr c ↦
               ousts e (destination S σ r) (reverseOf σ (destination S σ r)) refl (c .0) (c .1)
-              (moved-over T store long (destination S σ r) (slide S σ r (sound .ranges .q-low) head-in (room e)) (reverseOf σ (destination S σ r)) refl (c .0) (c .1))
+              (moved-over T store long (destination S σ r) refl (slide S σ r (sound .ranges .q-low) head-in (room e)) (reverseOf σ (destination S σ r)) refl (c .0) (c .1))
         ]
 
     pub fate : Fate store (move S σ r)

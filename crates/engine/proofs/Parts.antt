@@ -8,8 +8,8 @@ use borrow.Author.Tests.{eq-eqb}
 use Rattle.geometry.specs.declared.Settings.{Settings}
 use Rattle.geometry.specs.declared.PhysicalRow.{PhysicalRow}
 use Rattle.geometry.specs.Numbering.{physical}
-use Rattle.geometry.proofs.Facts.{Ranges, Exact, ranges-facts, lengths-facts}
-use Rattle.row_bytes.proofs.Laws.{row-before, length-rowBytes}
+use Rattle.conditions.proofs.Facts.{Ranges, Exact, ranges-facts, lengths-facts}
+use Rattle.row_layout.proofs.Laws.{row-before, length-rowBytes}
 use Rattle.engine.specs.State.{State, lengthsOf}
 use Rattle.engine.specs.Steps.{place}
 use Rattle.engine.specs.Ladder.{tickNumber, inspectNumber}
@@ -30,8 +30,8 @@ module _ (S : Settings) (σ : State) (r x : ℕ) (same : x ≡ inspectNumber S �
   exact : Exact S (lengthsOf σ)
   exact = lengths-facts S (lengthsOf σ) (fit .lengths)
 
-  pub row-located : (r < length (σ .forward)) × (r < 65536)
-  row-located = (omega (arith, facts .1, exact .forward), omega (arith, facts .1, ranges .n-high))
+  pub row-fits : r < 65536
+  row-fits = omega (arith, facts .1, ranges .n-high)
 
   below : place S σ r < S .n + S .q
   below = place-below S σ r ranges (facts .1) (facts .2)

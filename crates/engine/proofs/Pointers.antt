@@ -1,5 +1,5 @@
 -- The pointer tables under a move: what it changes, and that they stay inverse. Assumes nothing.
-use Prim.Native.Nat.{ℕ, _+_, _<_, _≤_}
+use Prim.Native.Nat.{ℕ, _+_, _<_}
 use native.Mathlib.Omega.{arith}
 use mathlib.Core.Path.{_≡_, refl, sym, ap, _∙_}
 use mathlib.Core.Logic.{_⊎_, inl, inr, _≢_}
@@ -12,9 +12,9 @@ use borrow.Author.Tests.{ne-eqb, eq-eqb}
 use Rattle.geometry.specs.declared.Settings.{Settings}
 use Rattle.geometry.specs.Entry.{empty}
 use Rattle.geometry.proofs.Cases.{split, eq?}
-use Rattle.geometry.proofs.Facts.{Ranges, Exact}
+use Rattle.conditions.proofs.Facts.{Ranges, Exact}
 use Rattle.engine.specs.State.{State, lengthsOf, forwardOf, reverseOf}
-use Rattle.engine.specs.Steps.{placeBy, place, left}
+use Rattle.engine.specs.Steps.{place, left}
 use Rattle.engine.specs.Tables.{Inverse}
 
 -- settings in their ranges, tables of their lengths, and inverse

@@ -43,6 +43,11 @@ pub goes-on : {a : ℕ} (b : ℕ) → a ≡ 0 → a ▹ b ≡ b
 unfolding _▹_
 goes-on b e = rw e
 
+-- two ladders one after the other are one
+pub joined : (a b c : ℕ) → (a ▹ b) ▹ c ≡ a ▹ (b ▹ c)
+unfolding _▹_
+joined a b c = elim (split (eqb a 0)) [ inl e ↦ rw e | inr e ↦ rw (e, e) ]
+
 pub applies : {condition : Bool} (x : ℕ) → condition ≡ true → stops condition x ≡ x
 unfolding stops
 applies x e = rw e

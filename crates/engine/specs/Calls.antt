@@ -9,7 +9,7 @@ use lib.ListN.{length, replicate}
 use Rattle.geometry.specs.declared.Settings.{Settings}
 use Rattle.geometry.specs.Numbering.{physical}
 use Rattle.geometry.specs.Entry.{empty}
-use Rattle.row_bytes.specs.Bytes.{rowBytes, written}
+use Rattle.row_layout.specs.Bytes.{rowBytes, written}
 use Rattle.engine.specs.declared.Access.{Access}
 use Rattle.engine.specs.declared.Access.the-variants.{Refused, Done}
 use Rattle.engine.specs.State.{State}

@@ -8,12 +8,13 @@ use lib.Dec.{ltb, leb, eqb}
 use lib.ListN.{getD}
 use Rattle.geometry.specs.declared.Settings.{Settings}
 use Rattle.geometry.specs.declared.Control.{Control}
+use Rattle.geometry.specs.declared.Ring.{Ring}
 use Rattle.geometry.specs.declared.Lengths.{Lengths}
-use Rattle.geometry.specs.Conditions.{rangesHold, limitHolds, lengthsHold}
+use Rattle.conditions.specs.Conditions.{rangesHold, limitHolds, lengthsHold}
 use Rattle.geometry.specs.Entry.{empty}
-use Rattle.tracker.specs.Scan.{some}
-use Rattle.engine.specs.State.{State, lengthsOf, forwardOf}
-use Rattle.engine.specs.Steps.{moves, destinationFrom, riseFrom}
+use Rattle.scan.specs.Scan.{some}
+use Rattle.engine.specs.State.{State, lengthsOf, trackerAt, ringOf, forwardOf}
+use Rattle.engine.specs.Steps.{place, moves, destinationFrom, riseTo}
 
 infixr 20 _▹_
 -- a row of the table: its number where its condition applies, else 0
@@ -34,15 +35,18 @@ settingsNumber S = stops (not (rangesHold S)) 1 ▹ stops (not (limitHolds S)) 2
 unfoldable pub fitNumber : Settings → Lengths → ℕ
 fitNumber S lent = settingsNumber S ▹ stops (not (lengthsHold S lent)) 3
 
--- control and tracker: 'head ≥ Q, passed > Q, acts > L, spill > acts, spill ≥ A, or some count > acts'
+-- control and tracker: 'head ≥ Q, passed > Q, ..
+unfoldable pub ringUnsound : Settings → Ring → Bool
+ringUnsound S ring = leb (S .q) (ring .head) || ltb (S .q) (ring .passed)
+
+-- .. acts > L, spill > acts, spill ≥ A, or some count > acts'
+unfoldable pub trackerUnsound : Settings → ℕ → ℕ → List ℕ → Bool
+trackerUnsound S spill acts counts =
+    ltb (S .l) acts || ltb acts spill || leb (S .a) spill || some (λ count. ltb acts count) counts
+
 unfoldable pub controlUnsound : Settings → Control → List ℕ → Bool
 controlUnsound S control counts =
-    leb (S .q) (control .head)
-    || ltb (S .q) (control .passed)
-    || ltb (S .l) (control .acts)
-    || ltb (control .acts) (control .spill)
-    || leb (S .a) (control .spill)
-    || some (λ count. ltb (control .acts) count) counts
+    ringUnsound S (ringOf control) || trackerUnsound S (control .spill) (control .acts) counts
 
 -- an entry is 65535, or below `limit` and x is what the other table has for it
 unfoldable pub pointsBack : ℕ → ℕ → List ℕ → ℕ → Bool
@@ -50,11 +54,12 @@ pointsBack entry limit other x = eqb entry empty || (ltb entry limit && eqb (get
 
 -- row: 'row ≥ N'; span: 'read buffer not W long; write runs past W' (off: that condition, by which the calls differ);
 -- row's pointers: 'forward entry is neither 65535 nor a slot whose reverse entry names the row'
-unfoldable pub rowNumber : Settings → List ℕ → List ℕ → ℕ → Bool → ℕ
-rowNumber S forward reverse r off =
+-- (entry: the row's forward entry)
+unfoldable pub rowNumber : Settings → List ℕ → ℕ → ℕ → Bool → ℕ
+rowNumber S reverse entry r off =
     stops (leb (S .n) r) 5
     ▹ stops off 6
-    ▹ stops (not (pointsBack (getD forward r empty) (S .q) reverse r)) 7
+    ▹ stops (not (pointsBack entry (S .q) reverse r)) 7
 
 -- the condition of 6: 'read buffer not W long',
 abbrev pub readOff : Settings → ℕ → Bool
@@ -66,16 +71,16 @@ writeOff S column count = ltb (S .w) (column + count)
 
 -- of an access that would quarantine its row, whose forward entry is `entry`. Quarantine: 'passed plus the rise of step 4
 -- exceeds Q'; destination: 'reverse of d is neither 65535 nor a row whose forward entry names d'
-unfoldable pub quarantineNumber : Settings → Control → List ℕ → List ℕ → ℕ → ℕ
-quarantineNumber S control forward reverse entry =
-    let d : ℕ = destinationFrom S (control .head) entry in
-    stops (ltb (S .q) (control .passed + riseFrom (control .head) entry)) 9
+unfoldable pub quarantineNumber : Settings → Ring → List ℕ → List ℕ → ℕ → ℕ
+quarantineNumber S ring forward reverse entry =
+    let d : ℕ = destinationFrom S (ring .head) entry in
+    stops (ltb (S .q) (ring .passed + riseTo S (ring .head) d)) 9
     ▹ stops (not (pointsBack (getD reverse d empty) (S .n) forward d)) 7
 
 -- epoch: 'acts = L'; then the two rows above, if the access would quarantine its row (due)
-unfoldable pub lateNumber : Settings → Control → List ℕ → List ℕ → ℕ → Bool → ℕ
-lateNumber S control forward reverse entry due =
-    stops (eqb (control .acts) (S .l)) 8 ▹ cond due (quarantineNumber S control forward reverse entry) 0
+unfoldable pub lateNumber : Settings → Ring → ℕ → List ℕ → List ℕ → ℕ → Bool → ℕ
+lateNumber S ring acts forward reverse entry due =
+    stops (eqb acts (S .l)) 8 ▹ cond due (quarantineNumber S ring forward reverse entry) 0
 
 -- ---- the column 'calls' of the table
 
@@ -89,11 +94,11 @@ tickNumber S σ = setUpNumber S σ ▹ stops (controlUnsound S (σ .control) (σ
 
 -- inspect, of row r; it has no span
 unfoldable pub inspectNumber : Settings → State → ℕ → ℕ
-inspectNumber S σ r = tickNumber S σ ▹ rowNumber S (σ .forward) (σ .reverse) r false
+inspectNumber S σ r = tickNumber S σ ▹ rowNumber S (σ .reverse) (forwardOf σ r) r false
 
 -- read and write, of row r
 unfoldable pub accessNumber : Settings → State → ℕ → Bool → ℕ
 accessNumber S σ r off =
     tickNumber S σ
-    ▹ rowNumber S (σ .forward) (σ .reverse) r off
-    ▹ lateNumber S (σ .control) (σ .forward) (σ .reverse) (forwardOf σ r) (moves S σ r)
+    ▹ rowNumber S (σ .reverse) (forwardOf σ r) r off
+    ▹ lateNumber S (ringOf (σ .control)) (trackerAt S σ (place S σ r) .acts) (σ .forward) (σ .reverse) (forwardOf σ r) (moves S σ r)

@@ -1,19 +1,19 @@
 -- Document 01, 'One access': what an accepted read or write of row r does, step by step.
 -- Assumes nothing.
-use Prim.Native.Nat.{ℕ, suc, _+_, _%_}
+use Prim.Native.Nat.{ℕ, suc, _+_, _-_, _%_}
 use mathlib.Core.Bool.{Bool, cond}
 use mathlib.Core.List.{List}
 use lib.Dec.{eqb}
 use lib.ListN.{getD, set}
 use Rattle.geometry.specs.declared.Settings.{Settings}
-use Rattle.geometry.specs.declared.Control.{Control}
+use Rattle.geometry.specs.declared.Ring.{Ring}
 use Rattle.geometry.specs.Numbering.{visible, slot, homeRow, slotRow}
 use Rattle.geometry.specs.Entry.{empty}
-use Rattle.tracker.specs.Track.{Tracked, track, isDue}
-use Rattle.row_bytes.specs.Bytes.{copied}
+use Rattle.tracking.specs.Track.{Tracked, track, isDue}
+use Rattle.row_layout.specs.Bytes.{copied}
 use Rattle.engine.specs.declared.Move.{Move}
 use Rattle.engine.specs.declared.Move.the-variants.{Stayed, ToSlot, OverSlot}
-use Rattle.engine.specs.State.{State, forwardOf}
+use Rattle.engine.specs.State.{State, Tracker, Storage, trackerAt, storageOf, ringOf, controlOf, forwardOf}
 
 -- 1. 'Place p: slot s's physical row if the row's forward entry is s, else its home.'
 abbrev pub placeBy : Settings → ℕ → ℕ → ℕ
@@ -24,7 +24,10 @@ place S σ r = placeBy S (forwardOf σ r) r
 
 -- 2. the tracker after it, and the estimate
 abbrev pub tracked : Settings → State → ℕ → Tracked
-tracked S σ r = track (place S σ r) (σ .rows) (σ .counts) (σ .control .spill)
+tracked S σ r =
+    let p : ℕ = place S σ r in
+    let t : Tracker = trackerAt S σ p in
+    track p (t .rows) (t .counts) (t .spill)
 
 -- 4. 'If there is an estimate and it is a multiple of A, the row is quarantined.'
 abbrev pub moves : Settings → State → ℕ → Bool
@@ -38,12 +41,13 @@ destinationFrom S head entry = cond (eqb entry head) ((head + 1) % S .q) head
 abbrev pub destination : Settings → State → ℕ → ℕ
 destination S σ r = destinationFrom S (σ .control .head) (forwardOf σ r)
 
--- '`passed` rises by 1, or by 2 where a slot was passed'
-unfoldable pub riseFrom : ℕ → ℕ → ℕ
-riseFrom head entry = cond (eqb entry head) 2 1
+-- '`passed` rises by 1, or by 2 where a slot was passed': by the slots from `head` to the destination d, d among them
+-- (`rise-is` of proofs/Moves.antt: that is 1 or 2, as the sentence has it)
+unfoldable pub riseTo : Settings → ℕ → ℕ → ℕ
+riseTo S head d = (d + S .q - head) % S .q + 1
 
-abbrev pub rise : State → ℕ → ℕ
-rise σ r = riseFrom (σ .control .head) (forwardOf σ r)
+abbrev pub rise : Settings → State → ℕ → ℕ
+rise S σ r = riseTo S (σ .control .head) (destination S σ r)
 
 -- 'If the reverse entry of d names a row v': where the row goes, and which row is sent home (held: d's reverse entry)
 abbrev pub moveInto : ℕ → ℕ → Move
@@ -87,51 +91,38 @@ headAfter S head Stayed = head
 headAfter S head (ToSlot d) = (d .0 + 1) % S .q
 headAfter S head (OverSlot d v) = (d .0 + 1) % S .q
 
--- '.. and `passed` rises' (up: by how much)
-abbrev pub passedAfter : ℕ → ℕ → Move → ℕ
-passedAfter passed up Stayed = passed
-passedAfter passed up (ToSlot d) = passed + up
-passedAfter passed up (OverSlot d v) = passed + up
+-- '.. and `passed` rises'
+abbrev pub passedAfter : Settings → Ring → Move → ℕ
+passedAfter S ring Stayed = ring .passed
+passedAfter S ring (ToSlot d) = ring .passed + riseTo S (ring .head) (d .0)
+passedAfter S ring (OverSlot d v) = ring .passed + riseTo S (ring .head) (d .0)
 
 -- ---- what is left
 
--- 2 and 3: '`acts` rises by 1' (spill: what step 2 leaves)
-abbrev pub controlCounted : ℕ → Control → Control
-controlCounted spill control =
-    record { head = control .head; passed = control .passed; spill = spill; acts = suc (control .acts) }
-
--- 2 and 3: all that is lent after them; store: with the bytes written at p, if it is a write
-abbrev pub counted : Settings → State → ℕ → List ℕ → State
-counted S σ r store =
+-- by 4, of row r at place p
+abbrev pub relocated : Settings → ℕ → ℕ → Move → Storage → Storage
+relocated S r p m was =
     record {
-      store = store;
-      forward = σ .forward;
-      reverse = σ .reverse;
-      rows = (tracked S σ r) .rows;
-      counts = (tracked S σ r) .counts;
-      control = controlCounted ((tracked S σ r) .spill) (σ .control);
+      store = storeAfter S (was .store) p m;
+      forward = forwardAfter (was .forward) r m;
+      reverse = reverseAfter (was .reverse) (getD (was .forward) r empty) r m;
+      ring = record { head = headAfter S (was .ring .head) m; passed = passedAfter S (was .ring) m };
     }
 
--- 4, of row r at place p
-abbrev pub relocated : Settings → ℕ → ℕ → Move → State → State
-relocated S r p m σ =
-    record {
-      store = storeAfter S (σ .store) p m;
-      forward = forwardAfter (σ .forward) r m;
-      reverse = reverseAfter (σ .reverse) (forwardOf σ r) r m;
-      rows = σ .rows;
-      counts = σ .counts;
-      control = record {
-        head = headAfter S (σ .control .head) m;
-        passed = passedAfter (σ .control .passed) (rise σ r) m;
-        spill = σ .control .spill;
-        acts = σ .control .acts;
-      };
-    }
-
--- all four, with the move that was decided
+-- by all four, with the move that was decided, and 3: '`acts` rises by 1' (store: with the bytes written at p, if it is a
+-- write)
 abbrev pub settled : Settings → State → ℕ → List ℕ → Move → State
-settled S σ r store m = relocated S r (place S σ r) m (counted S σ r store)
+settled S σ r store m =
+    let t : Tracked = tracked S σ r in
+    let now : Storage = relocated S r (place S σ r) m (storageOf store (σ .forward) (σ .reverse) (ringOf (σ .control))) in
+    record {
+      store = now .store;
+      forward = now .forward;
+      reverse = now .reverse;
+      rows = t .rows;
+      counts = t .counts;
+      control = controlOf (now .ring) (t .spill) (suc (σ .control .acts));
+    }
 
 -- all that is lent after an accepted access
 abbrev pub stateAfter : Settings → State → ℕ → List ℕ → State

@@ -1,8 +1,28 @@
 // What the engine of one rank answers. What each call does and answers stands in specs/: `Steps` (one access), `Ladder`
-// (the refusals) and `Calls` (the five calls). The code that meets it: crates `ladder` and `calls`.
+// (the refusals) and `Calls` (the five calls). The code that meets it: crates `ladder`, `settle`, `upkeep`, `look` and
+// `access`.
 use geometry::PhysicalRow;
 use geometry::Slot;
 use geometry::VisibleRow;
+
+// The refusals, by the rows of document 01's table 'Where each call can stop'.
+pub const SETTINGS: u32 = 1;
+
+pub const TOGETHER: u32 = 2;
+
+pub const BUFFERS: u32 = 3;
+
+pub const CONTROL: u32 = 4;
+
+pub const ROW: u32 = 5;
+
+pub const SPAN: u32 = 6;
+
+pub const POINTERS: u32 = 7;
+
+pub const EPOCH: u32 = 8;
+
+pub const QUARANTINE: u32 = 9;
 
 // Where an accepted access left its row.
 pub enum Move {

@@ -9,7 +9,7 @@ use Rattle.geometry.specs.declared.Settings.{Settings}
 use Rattle.geometry.specs.declared.PhysicalRow.{PhysicalRow}
 use Rattle.geometry.specs.Numbering.{physical}
 use Rattle.geometry.proofs.Cases.{split}
-use Rattle.row_bytes.specs.Bytes.{rowBytes}
+use Rattle.row_layout.specs.Bytes.{rowBytes}
 use Rattle.engine.specs.State.{State}
 use Rattle.engine.specs.Steps.{place}
 use Rattle.engine.specs.Ladder.{inspectNumber}

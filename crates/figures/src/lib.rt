@@ -80,14 +80,14 @@ pub fn inspect_span(
         (now (rows .entry)) (now (counts .entry)) control in
         ⌜ InspectSpanPromise s lent row r ⌝ }
 {
-    let number = ladder::inspect_number(control, s, row, store, forward, reverse, rows, counts);
+    let number = look::inspect_number(control, s, row, store, forward, reverse, rows, counts);
     if number != 0 {
         return Span {
             start: 0,
             length: 0,
         };
     }
-    let place = ladder::place(s, row, forward);
+    let place = look::place_of(s, row, forward);
     let w = s.w as usize;
     Span {
         start: (place.0 as usize) * w,

@@ -16,7 +16,8 @@ pub record Filled (v : ℕ) (was table : List ℕ) (i : ℕ) : Type 0 where
 pub filled-none : (v : ℕ) (was : List ℕ) → Filled v was was 0
 filled-none v was = record { within = zero-le; same = fill-none was v; long = refl }
 
-pub filled-more : (v : ℕ) (was table : List ℕ) (i : ℕ) → i < length was → Filled v was table i → Filled v was (set table i v) (i + 1)
+pub filled-more : (v : ℕ) (was table : List ℕ) (i : ℕ) → i < length was → Filled v was table i
+    → Filled v was (set table i v) (i + 1)
 filled-more v was table i b f =
     record {
       within = omega arith;
@@ -24,7 +25,8 @@ filled-more v was table i b f =
       long = length-set table i v ∙ f .long;
     }
 
-pub filled-all : (v : ℕ) (was table : List ℕ) (i : ℕ) → length was ≤ i → Filled v was table i → table ≡ replicate (length was) v
+pub filled-all : (v : ℕ) (was table : List ℕ) (i : ℕ) → length was ≤ i → Filled v was table i
+    → table ≡ replicate (length was) v
 filled-all v was table i b f =
     let e : i ≡ length was = omega (arith, f .within) in
     f .same ∙ rw (e, drop-length) (append-nil (replicate (length was) v))

@@ -1,5 +1,3 @@
 pub mod Cases
 pub mod Tests
-pub mod Words
-pub mod Facts
 pub mod Fills

@@ -1,4 +1,4 @@
 pub mod Numbering
 pub mod Entry
-pub mod Conditions
+pub mod Ranges
 pub mod Lists

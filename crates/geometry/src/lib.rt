@@ -1,10 +1,9 @@
-// The geometry of one rank: settings, control record, the three numberings, pointer entries, and the
-// conditions of refusals 1, 2 and 3. Every function answers for any argument.
+// The geometry of one rank: settings, control record, the three numberings, and the entries of the pointer tables.
+// Every function answers for any argument.
 ghost use mathlib.Core.Path.{_≡_};
 ghost use lib.ListN.{length, replicate};
 ghost use Rattle.geometry.specs.Numbering.{homeOf, slotRowOf};
-ghost use Rattle.geometry.specs.Entry.{empty, entryOfSlot, entryOfRow, slotOf, rowOf, isEmpty};
-ghost use Rattle.geometry.specs.Conditions.{rangesHold, limitHolds, storeHolds, lengthsHold};
+ghost use Rattle.geometry.specs.Entry.{empty, isEmpty, forwardEntryOf, slotOf, reverseEntryOf, rowOf};
 
 // The settings, by the letters of document 01.
 #[repr(C)]
@@ -34,6 +33,22 @@ pub struct Control {
     pub spill: u32,
     // accepted accesses this epoch
     pub acts: u32,
+}
+
+// The control record at set-up.
+pub const NEW: Control = Control {
+    head: 0,
+    passed: 0,
+    spill: 0,
+    acts: 0,
+};
+
+// Where the quarantine stands.
+pub struct Ring {
+    // next slot
+    pub head: u32,
+    // slots the head has gone by this epoch
+    pub passed: u32,
 }
 
 // The lengths of what the caller lends, in elements.
@@ -70,87 +85,61 @@ pub fn slot_row(settings: Settings, slot: Slot) -> PhysicalRow
     PhysicalRow((settings.n as u64) + (slot.0 as u64))
 }
 
-// An entry of a pointer table: a slot in the forward table, a visible row in the reverse table, or empty.
-pub struct Entry(pub u16);
+// The mark of an empty entry.
+pub const EMPTY: u16 = 65535;
 
-impl Entry {
-    pub const EMPTY: Entry = Entry(65535);
+// An entry of the forward table: the slot that a visible row sits in, or empty.
+pub struct ForwardEntry(pub u16);
 
-    // The forward entry of a row that sits in the slot.
-    pub fn of_slot(slot: Slot) -> Entry
-        ensures { λ r. ⌜ r ≡ entryOfSlot slot ⌝ }
+impl ForwardEntry {
+    pub const EMPTY: ForwardEntry = ForwardEntry(EMPTY);
+
+    // The entry of a row that sits in the slot.
+    pub fn of_slot(slot: Slot) -> ForwardEntry
+        ensures { λ r. ⌜ r ≡ forwardEntryOf slot ⌝ }
     {
-        Entry(slot.0)
-    }
-
-    // The reverse entry of a slot that holds the row.
-    pub fn of_row(row: VisibleRow) -> Entry
-        ensures { λ r. ⌜ r ≡ entryOfRow row ⌝ }
-    {
-        Entry(row.0)
+        ForwardEntry(slot.0)
     }
 
     pub fn is_empty(self) -> bool
-        ensures { λ r. ⌜ r ≡ isEmpty self ⌝ }
+        ensures { λ r. ⌜ r ≡ isEmpty (self .0) ⌝ }
     {
-        self.0 == Entry::EMPTY.0
+        self.0 == ForwardEntry::EMPTY.0
     }
 
-    // The slot that a forward entry names.
+    // The slot that the entry names.
     pub fn slot(self) -> Slot
         ensures { λ r. ⌜ r ≡ slotOf self ⌝ }
     {
         Slot(self.0)
     }
+}
 
-    // The visible row that a reverse entry names.
+// An entry of the reverse table: the visible row that a slot holds, or empty.
+pub struct ReverseEntry(pub u16);
+
+impl ReverseEntry {
+    pub const EMPTY: ReverseEntry = ReverseEntry(EMPTY);
+
+    // The entry of a slot that holds the row.
+    pub fn of_row(row: VisibleRow) -> ReverseEntry
+        ensures { λ r. ⌜ r ≡ reverseEntryOf row ⌝ }
+    {
+        ReverseEntry(row.0)
+    }
+
+    pub fn is_empty(self) -> bool
+        ensures { λ r. ⌜ r ≡ isEmpty (self .0) ⌝ }
+    {
+        self.0 == ReverseEntry::EMPTY.0
+    }
+
+    // The visible row that the entry names.
     pub fn row(self) -> VisibleRow
         ensures { λ r. ⌜ r ≡ rowOf self ⌝ }
     {
         VisibleRow(self.0)
     }
-}
-
-// Condition 1: each setting is in its range.
-pub fn ranges_hold(s: Settings) -> bool
-    ensures { λ r. ⌜ r ≡ rangesHold s ⌝ }
-{
-    ((1 <= s.n) & (s.n <= 60000))
-        & ((2 <= s.q) & (s.q <= 5500))
-        & ((1 <= s.w) & (s.w <= 8192))
-        & ((1 <= s.k) & (s.k <= 4096))
-        & ((1 <= s.a) & (s.a <= 65535))
-        & ((1 <= s.l) & (s.l <= 1360000))
-}
-
-// Condition 2: L is less than A × (K + 1). The product of any two 32-bit numbers, and one more, fits 64 bits.
-pub fn limit_holds(s: Settings) -> bool
-    ensures { λ r. ⌜ r ≡ limitHolds s ⌝ }
-{
-    (s.l as u64) < (s.a as u64) * ((s.k as u64) + 1)
-}
-
-// The store has (N + Q) × W bytes. N × W and Q × W fit 64 bits each; their sum may not, so it is not formed.
-pub fn store_holds(s: Settings, store: usize) -> bool
-    ensures { λ r. ⌜ r ≡ storeHolds s store ⌝ }
-{
-    let homes = (s.n as usize) * (s.w as usize);
-    let slots = (s.q as usize) * (s.w as usize);
-    if store < homes {
-        return false;
-    }
-    store - homes == slots
-}
-
-// Condition 3: each table, tracker part and store has exactly its length.
-pub fn lengths_hold(s: Settings, lent: Lengths) -> bool
-    ensures { λ r. ⌜ r ≡ lengthsHold s lent ⌝ }
-{
-    store_holds(s, lent.store)
-        & (lent.forward == (s.n as usize))
-        & (lent.reverse == (s.q as usize))
-        & (lent.rows == (s.k as usize))
-        & (lent.counts == (s.k as usize))
 }
 
 // Every entry of a table becomes empty.
@@ -159,7 +148,7 @@ pub fn clear_entries(table: &mut [u16])
 {
     let mut i: usize = 0;
     while i < table.len() {
-        table[i] = Entry::EMPTY.0;
+        table[i] = EMPTY;
         i += 1;
     }
 }

@@ -9,13 +9,13 @@ use lib.ListN.{length}
 use borrow.Author.Tests.{eqb-false}
 use Rattle.geometry.specs.declared.Settings.{Settings}
 use Rattle.geometry.specs.Numbering.{visible, slot}
-use Rattle.geometry.proofs.Facts.{limit-fact}
-use Rattle.tracker.proofs.Sums.{quotients}
-use Rattle.tracker.proofs.Tracking.{one-if}
-use Rattle.tracker.proofs.View.{Tracks, quotients-few}
+use Rattle.conditions.proofs.Facts.{limit-fact}
+use Rattle.tracking.proofs.Sums.{quotients}
+use Rattle.tracking.proofs.Tracking.{one-if}
+use Rattle.tracking.proofs.View.{Tracks, quotients-few}
 use Rattle.engine.specs.declared.Move.{Move}
 use Rattle.engine.specs.declared.Move.the-variants.{Stayed, ToSlot, OverSlot}
-use Rattle.engine.specs.State.{State, forwardOf}
+use Rattle.engine.specs.State.{State, Tracker, trackerAt, forwardOf}
 use Rattle.engine.specs.Answer.{slotMovedTo, rowSentHome}
 use Rattle.engine.specs.Steps.{place, tracked, moves, rise, move, settled, stateAfter}
 use Rattle.engine.proofs.Pointers.{marks-none, holder, inverse-moved}
@@ -29,20 +29,22 @@ use Rattle.history.proofs.Rows.{Estimated, home-stays, slot-stays, plac
 abbrev pub tallyAfter : Settings → tally.Tally → ℕ → Move → tally.Tally
 tallyAfter S τ r m = tally.afterAccess S τ r (slotMovedTo m) (rowSentHome m)
 
-module _ (S : Settings) (σ : State) (τ₀ τ : tally.Tally) (I : Inv S σ τ₀ τ) (r : ℕ) (row-in : r < S .n) (more : σ .control .acts < S .l) where
-  T : Tracks (S .a) (S .k) (place S σ r) (σ .rows) (σ .counts) (σ .control .spill) (σ .control .acts) (tracked S σ r)
-  T = tracks-access S σ (I .sound) r row-in (limit-fact S (I .limit)) more (I .counting)
+module _ (S : Settings) (σ : State) (τ₀ τ : tally.Tally) (I : Inv S σ τ₀ τ) (r : ℕ) (row-in : r < S .n)
+    (more : trackerAt S σ (place S σ r) .acts < S .l) where
+  T : let t : Tracker = trackerAt S σ (place S σ r) in
+      Tracks (S .a) (S .k) (place S σ r) (t .rows) (t .counts) (t .spill) (t .acts) (tracked S σ r)
+  T = tracks-access S σ (I .sound) r row-in (limit-fact S (I .limit)) more (I .counting (place S σ r))
 
   -- the quarantines of the epoch, this access included
   counted : (b : Bool) → moves S σ r ≡ b → quotients (S .a) ((tracked S σ r) .counts) ≡ quotients (S .a) (σ .counts) + one-if b
   counted b e = T .quotients ∙ ap (λ (c : Bool). quotients (S .a) (σ .counts) + one-if c) e
 
   -- with slots enough no access wants one
-  pub never-wanting : 2 * (S .l / S .a) ≤ S .q → moves S σ r ≡ true → S .q < σ .control .passed + rise σ r → ⊥
+  pub never-wanting : 2 * (S .l / S .a) ≤ S .q → moves S σ r ≡ true → S .q < σ .control .passed + rise S σ r → ⊥
   never-wanting enough e full =
-      omega (arith, counted true e, quotients-few (T .after) (S .a) (S .l) (I .sound .ranges .a-low) more, I .passed-few, rise-most σ r)
+      omega (arith, counted true e, quotients-few (T .after) (S .a) (S .l) (I .sound .ranges .a-low) more, I .passed-few, rise-most S (σ .control .head) (forwardOf σ r) (I .sound .ranges .q-low) (I .head-in))
 
-  module _ (room : moves S σ r ≡ true → σ .control .passed + rise σ r ≤ S .q) (store : List ℕ) (long : length store ≡ (S .n + S .q) * S .w) where
+  module _ (room : moves S σ r ≡ true → σ .control .passed + rise S σ r ≤ S .q) (store : List ℕ) (long : length store ≡ (S .n + S .q) * S .w) where
     estimated : (m : Move) → Estimated S σ (settled S σ r store m) (place S σ r)
     estimated m = record { same = T .same; other = T .other }
 
@@ -64,8 +66,8 @@ module _ (S : Settings) (σ : State) (τ₀ τ : tally.Tally) (I : Inv S σ τ�
           };
           head-in = I .head-in;
           passed-in = I .passed-in;
-          acts-in = more;
-          counting = counting-settled S σ (I .sound) r row-in store Stayed T;
+          acts-in = λ p. more;
+          counting = λ p. counting-settled S σ (I .sound) r row-in store Stayed T;
           quarantines = omega (arith, I .quarantines, counted false e);
           passed-few = omega (arith, I .passed-few, counted false e);
           places = I .places;
@@ -90,10 +92,10 @@ module _ (S : Settings) (σ : State) (τ₀ τ : tally.Tally) (I : Inv S σ τ�
           };
           head-in = M .head-in;
           passed-in = omega (arith, M .passed, room e);
-          acts-in = more;
-          counting = counting-settled S σ (I .sound) r row-in store m T;
+          acts-in = λ p. more;
+          counting = λ p. counting-settled S σ (I .sound) r row-in store m T;
           quarantines = omega (arith, I .quarantines, counted true e, told .quarantine);
-          passed-few = omega (arith, I .passed-few, counted true e, M .passed, rise-most σ r);
+          passed-few = omega (arith, I .passed-few, counted true e, M .passed, rise-most S (σ .control .head) (forwardOf σ r) (I .sound .ranges .q-low) (I .head-in));
           places = place-moves S σ τ₀ τ I r row-in (settled S σ r store m) (estimated m) d (tallyAfter S τ r m) (M .links) told (M .slide);
           homes = home-moves S σ τ₀ τ I r row-in (settled S σ r store m) (estimated m) d (tallyAfter S τ r m) (M .links) told (M .slide);
           slots = slot-moves S σ τ₀ τ I r row-in (settled S σ r store m) (estimated m) d (tallyAfter S τ r m) (M .links) told (M .slide);

@@ -1,25 +1,24 @@
 -- A good access is accepted as the first call after a tick, in every state with sound tables. Assumes nothing.
-use Prim.Native.Nat.{ℕ, _+_, _<_, zero-le}
+use Prim.Native.Nat.{ℕ, _<_, zero-le}
 use native.Mathlib.Nat.{le-of-eq}
 use native.Mathlib.Omega.{arith}
 use mathlib.Core.Path.{_≡_, sym, _∙_, subst}
 use mathlib.Core.Bool.{Bool, false}
-use lib.Dec.{eqb}
-use lib.ListN.{length, getD-replicate, length-replicate}
-use borrow.Author.Tests.{eq-eqb, eqb-true, le-ltb, ltb-false, not-false}
+use lib.ListN.{getD-replicate, length-replicate}
 use Rattle.geometry.specs.declared.Settings.{Settings}
-use Rattle.geometry.proofs.Facts.{ranges-facts, lengths-facts, lengths-hold}
-use Rattle.engine.specs.State.{State, lengthsOf}
+use Rattle.conditions.proofs.Facts.{ranges-facts, lengths-facts, lengths-hold}
+use Rattle.engine.specs.State.{State, lengthsOf, forwardOf}
 use Rattle.engine.specs.Steps.{destination}
-use Rattle.engine.specs.Ladder.{tickNumber, accessNumber, readOff, writeOff}
+use Rattle.engine.specs.Ladder.{tickNumber, accessNumber}
 use Rattle.engine.specs.Calls as calls
 use Rattle.engine.specs.Tables.{Inverse}
-use Rattle.engine.proofs.Facts.{Fit, steady, steady-passes, tick-facts, tick-not-9, inspect-not-9, fails-not, row-holds, slot-holds, wanting, accepts}
+use Rattle.engine.proofs.Facts.{Fit, steady, steady-passes, tick-facts, row-holds, slot-holds, wanting, accepts}
 use Rattle.engine.proofs.Pointers.{Sound}
 use Rattle.engine.proofs.Moves.{destination-in, rise-most}
-use Rattle.history.specs.Run.{Call, read, write, tick, inspect, step}
+use Rattle.history.specs.Run.{Call, access, tick, inspect, rowOf}
 use Rattle.history.specs.Demand2.{GoodAccess, NineIsGood, AcceptedAfterTick}
-use Rattle.history.proofs.Calls.{ladder, step-number, sound-ticked}
+use Rattle.history.proofs.Groups.{spanOff, span-good, span-in, ladder, step-number, at-9, accepted-step}
+use Rattle.history.proofs.Calls.{sound-ticked}
 
 module _ (S : Settings) (σ : State) (inverse : Inverse S σ) (tick-0 : tickNumber S σ ≡ 0) where
   fit : Fit S σ
@@ -46,36 +45,21 @@ module _ (S : Settings) (σ : State) (inverse : Inverse S σ) (tick-0 : tickNumb
           pointers = row-holds S (calls.ticked S σ) r (sound .inverse .forward r row-in);
           more = sound .ranges .l-low;
         };
-        room = λ m. omega (arith, rise-most (calls.ticked S σ) r, sound .ranges .q-low);
+        room = λ m. omega (arith, rise-most S (σ .control .head) (forwardOf σ r) (sound .ranges .q-low) head-in, sound .ranges .q-low);
         target = λ m. slot-holds S (calls.ticked S σ) (destination S (calls.ticked S σ) r)
             (sound .inverse .reverse (destination S (calls.ticked S σ) r) (destination-in S (calls.ticked S σ) r head-in));
       })
 
   good-then : (c : Call) → GoodAccess S c → ladder S (calls.ticked S σ) c ≡ 0
-  good-then (read r buffer) g = accepted-then r (readOff S (length buffer)) (g .0) (fails-not (eq-eqb (length buffer) (S .w) (g .1)))
-  good-then (write r column bytes) g = accepted-then r (writeOff S column (length bytes)) (g .0) (le-ltb (S .w) (column + length bytes) (g .1))
+  good-then (access a) g = accepted-then (rowOf a) (spanOff S a) (g .0) (span-in S a (g .1))
   good-then tick g = absurd g
   good-then (inspect r) g = absurd g
-
--- the state that an accepted tick leaves
-ticks : (S : Settings) (σ : State) → tickNumber S σ ≡ 0 → (step S σ tick) .state ≡ calls.ticked S σ
-unfolding step calls.tick calls.noted
-ticks S σ z = rw (eq-eqb (tickNumber S σ) 0 z)
 
 pub accepted-after-tick : AcceptedAfterTick
 accepted-after-tick S σ c v e good =
     let z : tickNumber S σ ≡ 0 = sym (step-number S σ tick) ∙ e in
-    rw (ticks S σ z) (step-number S (calls.ticked S σ) c ∙ good-then S σ v z c good)
-
-nine-good : (S : Settings) (σ : State) (c : Call) → ladder S σ c ≡ 9 → GoodAccess S c
-nine-good S σ (read r buffer) e =
-    let R = wanting S σ r (readOff S (length buffer)) e .reached in
-    (R .row-in, eqb-true (length buffer) (S .w) (not-false (eqb (length buffer) (S .w)) (R .span-in)))
-nine-good S σ (write r column bytes) e =
-    let R = wanting S σ r (writeOff S column (length bytes)) e .reached in
-    (R .row-in, ltb-false (S .w) (column + length bytes) (R .span-in))
-nine-good S σ tick e = absurd (tick-not-9 S σ e)
-nine-good S σ (inspect r) e = absurd (inspect-not-9 S σ r e)
+    rw (accepted-step S σ tick z) (step-number S (calls.ticked S σ) c ∙ good-then S σ v z c good)
 
 pub nine-is-good : NineIsGood
-nine-is-good S σ c e = nine-good S σ c (sym (step-number S σ c) ∙ e)
+nine-is-good S σ =
+    at-9 S σ (GoodAccess S) (λ a e. let R = wanting S σ _ _ e .reached in (R .row-in, span-good S a (R .span-in)))

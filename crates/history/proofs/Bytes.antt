@@ -9,8 +9,8 @@ use borrow.Author.Tests.{eq-eqb, ne-eqb, lt-ltb, le-ltb, le-leb, lt-leb}
 use Rattle.geometry.specs.declared.Settings.{Settings}
 use Rattle.geometry.specs.Entry.{empty}
 use Rattle.geometry.proofs.Cases.{eq?, lt?}
-use Rattle.row_bytes.specs.Bytes.{rowBytes, written}
-use Rattle.row_bytes.proofs.Laws.{byteAt, length-rowBytes, rowBytes-at, written-in, written-beside, written-other}
+use Rattle.row_layout.specs.Bytes.{rowBytes, written}
+use Rattle.row_layout.proofs.Laws.{byteAt, length-rowBytes, rowBytes-at, written-in, written-beside, written-other}
 use Rattle.engine.specs.declared.Move.{Move}
 use Rattle.engine.specs.State.{State, forwardOf}
 use Rattle.engine.specs.Steps.{place, settled}

@@ -1,4 +1,5 @@
--- A list of events from one memory to another: the run of a list of calls is one, and so is a transcript of the C functions.
+-- A list of events from one memory to another: the run of a list of calls is one, and so is a transcript of the C
+-- functions.
 -- Assumes nothing.
 use Prim.Native.Nat.{ℕ}
 use native.Mathlib.Omega.{arith}
@@ -9,9 +10,10 @@ use mathlib.Core.List.{List, [], _∷_}
 use Rattle.geometry.specs.declared.Settings.{Settings}
 use Rattle.engine.specs.State.{State}
 use Rattle.history.specs.Tally as tally
-use Rattle.history.specs.Run.{Call, read, write, tick, inspect, Answer, Event, step, run, events, requestOf, reportOf}
-use Rattle.history.specs.Demand2.{Memory, remember, ReturnsRow}
-use Rattle.history.specs.Demand3.{AnswersPlace}
+use Rattle.history.specs.Run.{Access, Call, inspect, Answer, Event, step, run}
+use Rattle.history.specs.Run.{eventOf, events, OfAccepted, reportOf}
+use Rattle.history.specs.Demand2.{Memory, remember}
+use Rattle.history.proofs.Groups.{not-accepted}
 
 -- an event that changes nothing: a call that was lent another length, or an inspect that tells no number
 pub data Idle : Event → Type 0 where
@@ -22,7 +24,7 @@ pub data Idle : Event → Type 0 where
 pub data Chain (S : Settings) : State → List Event → State → Type 0 where
   end : {σ : State} → Chain S σ [] σ
   call : {σ σ′ : State} {es : List Event} (c : Call) → Chain S ((step S σ c) .state) es σ′
-      → Chain S σ (record { call = c; answer = (step S σ c) .answer } ∷ es) σ′
+      → Chain S σ (eventOf c (step S σ c) ∷ es) σ′
   idle : {σ σ′ : State} {es : List Event} {e : Event} → Idle e → Chain S σ es σ′ → Chain S σ (e ∷ es) σ′
 
 -- the run of a list of calls
@@ -41,31 +43,17 @@ pub idle-runs : {e : Event} → Idle e → tally.endsEpoch (reportOf e) ≡ fals
 idle-runs (misfit z) = rw z
 idle-runs (looks r z) = rw z
 
--- it is not refused for want of a slot, and answers no place,
+-- it is not refused for want of a slot,
 pub idle-not-9 : {e : Event} → Idle e → e .answer .number ≢ 9
 idle-not-9 (misfit z) n = omega arith
 idle-not-9 (looks r z) n = omega arith
 
-misfit-place : (e : Event) → e .answer .number ≡ 3 → (τ : tally.Tally) (q : tally.Request) → AnswersPlace τ e q
-misfit-place e z τ (tally.access r) = λ n. omega arith
-misfit-place e z τ tally.tick = tt
-misfit-place e z τ (tally.inspect r) = tt
+-- it is no accepted access, which would answer a place or return bytes,
+pub idle-accepted : {e : Event} (P : Access → Answer → Type 0) → Idle e → OfAccepted P e
+idle-accepted {e} P (misfit z) = not-accepted P e (λ n. omega arith)
+idle-accepted P (looks r z) = tt
 
-pub idle-place : {e : Event} (τ : tally.Tally) → Idle e → AnswersPlace τ e (requestOf (e .call))
-idle-place τ (looks r z) = tt
-idle-place {e} τ (misfit z) = misfit-place e z τ (requestOf (e .call))
-
--- and it writes and returns no byte
+-- and it writes no byte
 pub idle-memory : {e : Event} (mem : Memory) → Idle e → remember mem e ≡ mem
 idle-memory mem (misfit z) = rw z
 idle-memory mem (looks r z) = rw z
-
-misfit-returns : (e : Event) → e .answer .number ≡ 3 → (S : Settings) (mem : Memory) (c : Call) → ReturnsRow S mem e c
-misfit-returns e z S mem (read r buffer) = λ n. omega arith
-misfit-returns e z S mem (write r column bytes) = tt
-misfit-returns e z S mem tick = tt
-misfit-returns e z S mem (inspect r) = tt
-
-pub idle-returns : {e : Event} (S : Settings) (mem : Memory) → Idle e → ReturnsRow S mem e (e .call)
-idle-returns S mem (looks r z) = tt
-idle-returns {e} S mem (misfit z) = misfit-returns e z S mem (e .call)

@@ -8,18 +8,20 @@ use lib.ListN.{getD-replicate, length-replicate}
 use borrow.Author.Tests.{eq-eqb}
 use Rattle.geometry.specs.declared.Settings.{Settings}
 use Rattle.geometry.specs.Entry.{empty}
-use Rattle.geometry.proofs.Facts.{ranges-facts, lengths-facts}
+use Rattle.conditions.proofs.Facts.{ranges-facts, lengths-facts}
 use Rattle.engine.specs.State.{State, lengthsOf, forwardOf}
 use Rattle.engine.specs.Ladder.{setUpNumber}
 use Rattle.engine.specs.Calls as calls
 use Rattle.engine.proofs.Facts.{Fit, fit}
-use Rattle.history.specs.Run.{Call, Event, step, events, reportOf, Each, OneOf}
+use Rattle.history.specs.Run.{Call, Event, step, eventOf, events, reportOf, Each, OneOf}
 use Rattle.history.specs.Tally as tally
 use Rattle.history.specs.Demand2.{TablesInverse, Usual, OnlyUsual}
-use Rattle.history.specs.Demand3.{Bounded, NoSlotWanting, PlacesAnswered, Kept, Demand3}
+use Rattle.history.specs.Demand3.{Bounded, NoSlotWanting, AnswersPlace, PlacesAnswered, Kept, Demand3}
 use Rattle.history.proofs.Invariant.{Inv}
-use Rattle.history.proofs.Calls.{inv-new, carried, bounded, step-number, not-9, answers-place, usual}
-use Rattle.history.proofs.Chain.{Chain, end, call, idle, chain-of, Idle, idle-feed, idle-runs, idle-not-9, idle-place}
+use Rattle.history.proofs.Groups.{step-number}
+use Rattle.history.proofs.Calls.{inv-new, carried, carried-on, bounded, not-9, answers-place, usual}
+use Rattle.history.proofs.Chain.{Chain, end, call, idle, chain-of}
+use Rattle.history.proofs.Chain.{Idle, idle-feed, idle-runs, idle-not-9, idle-accepted}
 
 -- ---- set-up
 
@@ -62,19 +64,15 @@ module _ (S : Settings) where
   pub inv-chain : {σ σ′ : State} {es : List Event} → Chain S σ es σ′ → (τ₀ τ : tally.Tally) → Inv S σ τ₀ τ
       → (τ₁ : tally.Tally) × (τ₂ : tally.Tally) × Inv S σ′ τ₁ τ₂
   inv-chain end τ₀ τ I = (τ₀, τ, I)
-  inv-chain (call {σ} c rest) τ₀ τ I =
-      elim (carried S σ τ₀ τ I c) [ inl v ↦ inv-chain rest _ _ (v .2) | inr v ↦ inv-chain rest τ₀ _ (v .1) ]
+  inv-chain (call {σ} c rest) τ₀ τ I = inv-chain rest _ _ (carried-on S σ τ₀ τ I c .1)
   inv-chain (idle z rest) τ₀ τ I = inv-chain rest τ₀ τ I
 
   -- what holds of an idle event, and of every answer given under the invariant, holds of each event
   each : (P : Event → Type 0) → ((e : Event) → Idle e → P e)
-      → ((σ : State) (τ₀ τ : tally.Tally) → Inv S σ τ₀ τ → (c : Call) → P (record { call = c; answer = (step S σ c) .answer }))
+      → ((σ : State) (τ₀ τ : tally.Tally) → Inv S σ τ₀ τ → (c : Call) → P (eventOf c (step S σ c)))
       → {σ σ′ : State} {es : List Event} → Chain S σ es σ′ → (τ₀ τ : tally.Tally) → Inv S σ τ₀ τ → Each P es
   each P k h end τ₀ τ I = tt
-  each P k h (call {σ} c rest) τ₀ τ I = (
-    h σ τ₀ τ I c,
-    elim (carried S σ τ₀ τ I c) [ inl v ↦ each P k h rest _ _ (v .2) | inr v ↦ each P k h rest τ₀ _ (v .1) ],
-  )
+  each P k h (call {σ} c rest) τ₀ τ I = (h σ τ₀ τ I c, each P k h rest _ _ (carried-on S σ τ₀ τ I c .1))
   each P k h (idle {e = e} z rest) τ₀ τ I = (k e z, each P k h rest τ₀ τ I)
 
   epochs-bounded : {σ σ′ : State} {es : List Event} → Chain S σ es σ′ → (τ₀ τ : tally.Tally) → Inv S σ τ₀ τ
@@ -89,11 +87,10 @@ module _ (S : Settings) where
 
   places-answered : {σ σ′ : State} {es : List Event} → Chain S σ es σ′ → (τ₀ τ : tally.Tally) → Inv S σ τ₀ τ → PlacesAnswered S τ es
   places-answered end τ₀ τ I = tt
-  places-answered (call {σ} c rest) τ₀ τ I = (
-    answers-place S σ τ₀ τ I c,
-    elim (carried S σ τ₀ τ I c) [ inl v ↦ places-answered rest _ _ (v .2) | inr v ↦ places-answered rest τ₀ _ (v .1) ],
-  )
-  places-answered (idle z rest) τ₀ τ I = (idle-place τ z, rw (idle-feed S τ z) (places-answered rest τ₀ τ I))
+  places-answered (call {σ} c rest) τ₀ τ I =
+      (answers-place S σ τ₀ τ I c, places-answered rest _ _ (carried-on S σ τ₀ τ I c .1))
+  places-answered (idle z rest) τ₀ τ I =
+      (idle-accepted (AnswersPlace τ) z, rw (idle-feed S τ z) (places-answered rest τ₀ τ I))
 
 -- ---- the theorems
 
@@ -114,7 +111,8 @@ pub tables-inverse : TablesInverse
 tables-inverse S σ cs z = inv-chain S (chain-of S cs ((calls.setUp S σ) .state)) tally.start tally.start (inv-set-up S σ z) .2 .sound .inverse
 
 -- the number of a call under the invariant
-pub usual-number : (S : Settings) (σ : State) (τ₀ τ : tally.Tally) → Inv S σ τ₀ τ → (c : Call) → Usual (record { call = c; answer = (step S σ c) .answer })
+pub usual-number : (S : Settings) (σ : State) (τ₀ τ : tally.Tally) → Inv S σ τ₀ τ
+    → (c : Call) → Usual (eventOf c (step S σ c))
 usual-number S σ τ₀ τ I c =
     rw (step-number S σ c)
     (usual S σ τ₀ τ I (OneOf (0 ∷ 5 ∷ 6 ∷ 8 ∷ 9 ∷ []))
@@ -122,10 +120,8 @@ usual-number S σ τ₀ τ I c =
 
 only-usual-from : (S : Settings) (cs : List Call) (σ : State) (τ₀ τ : tally.Tally) → Inv S σ τ₀ τ → Each Usual (events S σ cs)
 only-usual-from S [] σ τ₀ τ I = tt
-only-usual-from S (c ∷ cs) σ τ₀ τ I = (
-  usual-number S σ τ₀ τ I c,
-  elim (carried S σ τ₀ τ I c) [ inl v ↦ only-usual-from S cs _ _ _ (v .2) | inr v ↦ only-usual-from S cs _ τ₀ _ (v .1) ],
-)
+only-usual-from S (c ∷ cs) σ τ₀ τ I =
+    (usual-number S σ τ₀ τ I c, only-usual-from S cs _ _ _ (carried-on S σ τ₀ τ I c .1))
 
 pub only-usual : OnlyUsual
 only-usual S σ cs z = only-usual-from S cs ((calls.setUp S σ) .state) tally.start tally.start (inv-set-up S σ z)

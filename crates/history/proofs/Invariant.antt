@@ -4,21 +4,29 @@ use mathlib.Core.Path.{_≡_}
 use mathlib.Core.Bool.{Bool, true}
 use lib.Dec.{eqb}
 use Rattle.geometry.specs.declared.Settings.{Settings}
-use Rattle.geometry.specs.Conditions.{rangesHold, limitHolds}
+use Rattle.conditions.specs.Conditions.{rangesHold, limitHolds}
 use Rattle.geometry.specs.Entry.{empty}
-use Rattle.tracker.proofs.Sums.{quotients}
-use Rattle.tracker.proofs.Tracking.{estimateOf}
-use Rattle.tracker.proofs.View.{Counting}
-use Rattle.engine.specs.State.{State, forwardOf, reverseOf}
+use Rattle.tracking.proofs.Sums.{quotients}
+use Rattle.tracking.proofs.Tracking.{estimateOf}
+use Rattle.tracking.proofs.View.{Counting}
+use Rattle.engine.specs.State.{State, Tracker, trackerAt, forwardOf, reverseOf}
 use Rattle.engine.specs.Steps.{place}
 use Rattle.history.specs.Tally.{Tally}
 use Rattle.engine.proofs.Window.{goneBy}
 use Rattle.history.proofs.Openings.{Home, Slot}
 use Rattle.engine.proofs.Pointers.{Sound}
 
--- the tracker's estimate of a physical row
-abbrev pub estimate : State → ℕ → ℕ
-estimate σ p = estimateOf (σ .rows) (σ .counts) (σ .control .spill) p
+-- what the tracker that serves physical row p has counted,
+abbrev pub CountingAt : Settings → State → ℕ → Type 0
+CountingAt S σ p =
+    let t : Tracker = trackerAt S σ p in
+    Counting (S .k) (t .rows) (t .counts) (t .spill) (t .acts)
+
+-- and its estimate of the row
+abbrev pub estimate : Settings → State → ℕ → ℕ
+estimate S σ p =
+    let t : Tracker = trackerAt S σ p in
+    estimateOf (t .rows) (t .counts) (t .spill) p
 
 -- slot s is gone by
 abbrev pub gone : Settings → State → ℕ → Bool
@@ -26,10 +34,14 @@ gone S σ s = goneBy (S .q) (σ .control .head) (σ .control .passed) s
 
 -- τ₀: the tally when the running epoch began; τ: the tally now
 abbrev pub HomeKept : Settings → State → Tally → Tally → ℕ → Type 0
-HomeKept S σ τ₀ τ x = Home (S .a) (τ .openings x) (τ₀ .openings x) (estimate σ x) (eqb (forwardOf σ x) empty) (gone S σ (forwardOf σ x))
+HomeKept S σ τ₀ τ x =
+    Home (S .a) (τ .openings x) (τ₀ .openings x) (estimate S σ x)
+    (eqb (forwardOf σ x) empty) (gone S σ (forwardOf σ x))
 
 abbrev pub SlotKept : Settings → State → Tally → Tally → ℕ → Type 0
-SlotKept S σ τ₀ τ s = Slot (S .a) (τ .openings (S .n + s)) (τ₀ .openings (S .n + s)) (estimate σ (S .n + s)) (gone S σ s) (eqb (reverseOf σ s) empty)
+SlotKept S σ τ₀ τ s =
+    Slot (S .a) (τ .openings (S .n + s)) (τ₀ .openings (S .n + s)) (estimate S σ (S .n + s))
+    (gone S σ s) (eqb (reverseOf σ s) empty)
 
 pub record Inv (S : Settings) (σ : State) (τ₀ τ : Tally) : Type 0 where
   pub ranges : rangesHold S ≡ true
@@ -37,8 +49,9 @@ pub record Inv (S : Settings) (σ : State) (τ₀ τ : Tally) : Type 0 where
   pub sound : Sound S σ
   pub head-in : σ .control .head < S .q
   pub passed-in : σ .control .passed ≤ S .q
-  pub acts-in : σ .control .acts ≤ S .l
-  pub counting : Counting (S .k) (σ .rows) (σ .counts) (σ .control .spill) (σ .control .acts)
+  -- the tracker, by the physical rows that it serves
+  pub acts-in : (p : ℕ) → trackerAt S σ p .acts ≤ S .l
+  pub counting : (p : ℕ) → CountingAt S σ p
   pub quarantines : τ .quarantines ≡ τ₀ .quarantines + quotients (S .a) (σ .counts)
   pub passed-few : σ .control .passed ≤ 2 * quotients (S .a) (σ .counts)
   pub places : (x : ℕ) → x < S .n → τ .place x ≡ place S σ x

@@ -1,81 +1,72 @@
 -- Every byte that an accepted read or inspect returns is the one last written there, or the one that stood there at set-up.
 -- Assumes nothing.
-use Prim.Native.Nat.{ℕ, _+_, _*_}
-use mathlib.Core.Path.{_≡_, sym, _∙_}
-use mathlib.Core.Logic.{inl, inr}
-use mathlib.Core.Bool.{Bool}
+use Prim.Native.Nat.{ℕ, _<_}
+use mathlib.Core.Path.{_≡_, sym, subst}
 use mathlib.Core.List.{List}
-use lib.Dec.{eqb}
-use lib.ListN.{length}
-use borrow.Author.Tests.{eqb-true, eq-eqb, ltb-false}
+use borrow.Author.Tests.{eq-eqb, ne-eqb}
 use Rattle.geometry.specs.declared.Settings.{Settings}
-use Rattle.geometry.proofs.Cases.{split}
-use Rattle.row_bytes.specs.Bytes.{rowBytes, written}
+use Rattle.row_layout.specs.Bytes.{rowBytes}
 use Rattle.engine.specs.State.{State}
 use Rattle.engine.specs.Steps.{place, move, stateAfter}
-use Rattle.engine.specs.Ladder.{tickNumber, inspectNumber, accessNumber, readOff, writeOff}
+use Rattle.engine.specs.Ladder.{inspectNumber}
 use Rattle.engine.specs.Calls as calls
-use Rattle.engine.proofs.Facts.{Accepted, accepted}
-use Rattle.engine.proofs.Answers.{number-is}
-use Rattle.history.specs.Run.{Call, read, write, tick, inspect, Event, step}
+use Rattle.engine.proofs.Facts.{accepted}
+use Rattle.history.specs.Run.{Access, read, write, Call, access, rowOf, Step, step, Event, eventOf, OfAccepted}
 use Rattle.history.specs.Tally as tally
-use Rattle.history.specs.Demand2.{Memory, standing, overwritten, remember, remembered, ReturnsRow, RowsReturned, PartsHold, BytesKept}
+use Rattle.history.specs.Demand2.{Memory, standing, withAccess, remember, remembered}
+use Rattle.history.specs.Demand2.{IsRow, ReturnsRow, RowsReturned, PartsHold, BytesKept}
+use Rattle.history.proofs.Groups.{storeBy, span-good, ladder, acceptedStep, step-cases, of-accepted}
 use Rattle.history.proofs.Invariant.{Inv}
 use Rattle.history.proofs.Access.{its-fate}
 use Rattle.history.proofs.Bytes.{Stands, stands-new, row-returned, stands-written, stands-settled}
-use Rattle.history.proofs.Calls.{carried, store-long, written-long, inspect-0}
-use Rattle.history.proofs.Chain.{Chain, end, call, idle, chain-of, idle-memory, idle-returns}
+use Rattle.history.proofs.Calls.{carried-on, store-long, inspect-0}
+use Rattle.history.proofs.Chain.{Chain, end, call, idle, chain-of, idle-memory, idle-accepted}
 use Rattle.history.proofs.History.{set-up-state, inv-set-up}
 
 module _ (S : Settings) (σ : State) (τ₀ τ : tally.Tally) (I : Inv S σ τ₀ τ) (mem : Memory) (st : Stands S σ (σ .store) mem) where
   -- ---- what a call returns
 
-  returns-row : (c : Call) → ReturnsRow S mem (record { call = c; answer = (step S σ c) .answer }) c
-  unfolding step calls.read calls.accessed
-  returns-row (read r buffer) = λ z.
-      let off : Bool = readOff S (length buffer) in
-      let x : accessNumber S σ r off ≡ 0 = sym (number-is S σ r (accessNumber S σ r off) (σ .store) (rowBytes (S .w) (σ .store) (place S σ r)) buffer) ∙ z in
-      rw (eq-eqb (accessNumber S σ r off) 0 x) (row-returned S σ (I .sound) r (accepted S σ r off x .reached .row-in) mem st)
-  returns-row (write r column bytes) = tt
-  returns-row tick = tt
-  returns-row (inspect r) = tt
+  accepted-returns : (a : Access) → ladder S σ (access a) ≡ 0
+      → ReturnsRow S mem a ((acceptedStep S σ (access a)) .answer)
+  accepted-returns (read r buffer) z = row-returned S σ (I .sound) r (accepted S σ _ _ z .reached .row-in) mem st
+  accepted-returns (write r column bytes) z = tt
+
+  returns-row : (c : Call) → OfAccepted (ReturnsRow S mem) (eventOf c (step S σ c))
+  returns-row = of-accepted S σ (ReturnsRow S mem) accepted-returns
 
   -- inspect gives each row
-  parts-hold : PartsHold S mem σ
+  part-is : (r : ℕ) → r < S .n → calls.inspectPart S σ r ≡ rowBytes (S .w) (σ .store) (place S σ r)
   unfolding calls.inspectPart
-  parts-hold r row-in = rw (eq-eqb (inspectNumber S σ r) 0 (inspect-0 S σ τ₀ τ I r row-in)) (row-returned S σ (I .sound) r row-in mem st)
+  part-is r row-in = rw (eq-eqb (inspectNumber S σ r) 0 (inspect-0 S σ τ₀ τ I r row-in))
+
+  parts-hold : PartsHold S mem σ
+  parts-hold r row-in = subst (IsRow S mem r) (sym (part-is r row-in)) (row-returned S σ (I .sound) r row-in mem st)
 
   -- ---- what it leaves
 
-  -- an accepted access; store and mem′: the store and the logical memory after step 3
-  stands-accepted : (r : ℕ) (off : Bool) (store : List ℕ) (mem′ : Memory) → accessNumber S σ r off ≡ 0 → length store ≡ (S .n + S .q) * S .w → Stands S σ store mem′
-      → Stands S (stateAfter S σ r store) ((stateAfter S σ r store) .store) mem′
-  stands-accepted r off store mem′ z long st′ =
-      let A : Accepted S σ r off = accepted S σ r off z in
-      stands-settled S σ (I .sound) r (A .reached .row-in) store (move S σ r) (its-fate S σ τ₀ τ I r (A .reached .row-in) (A .reached .more) (A .room) store long) mem′ st′
+  -- an accepted access, after step 3
+  stands-touched : (a : Access) → ladder S σ (access a) ≡ 0 → Stands S σ (storeBy S σ a) (withAccess mem a)
+  stands-touched (read r buffer) z = st
+  stands-touched (write r column bytes) z =
+      let R = accepted S σ _ _ z .reached in
+      stands-written S σ (I .sound) r (R .row-in) mem st column bytes (span-good S (write r column bytes) (R .span-in))
+
+  -- and after step 4
+  stands-accepted : (a : Access) → ladder S σ (access a) ≡ 0
+      → (let σ′ : State = stateAfter S σ (rowOf a) (storeBy S σ a) in Stands S σ′ (σ′ .store) (withAccess mem a))
+  stands-accepted a z =
+      let A = accepted S σ _ _ z in
+      let R = A .reached in
+      stands-settled S σ (I .sound) (rowOf a) (R .row-in) (storeBy S σ a) (move S σ (rowOf a))
+      (its-fate S σ τ₀ τ I (rowOf a) (R .row-in) (R .more) (A .room) (storeBy S σ a) (store-long S σ τ₀ τ I a z))
+      (withAccess mem a) (stands-touched a z)
 
   -- a call leaves each row's bytes at its place
-  stands-step : (c : Call) → Stands S ((step S σ c) .state) ((step S σ c) .state .store) (remember mem (record { call = c; answer = (step S σ c) .answer }))
-  unfolding step calls.read calls.write calls.tick calls.accessed calls.noted
-  stands-step (read r buffer) =
-      let off : Bool = readOff S (length buffer) in
-      elim (split (eqb (accessNumber S σ r off) 0)) [
-        | inl e ↦ rw e (stands-accepted r off (σ .store) mem (eqb-true (accessNumber S σ r off) 0 e) (store-long S σ τ₀ τ I) st)
-        | inr e ↦ rw (e, e) st
-      ]
-  stands-step (write r column bytes) =
-      let off : Bool = writeOff S column (length bytes) in
-      elim (split (eqb (accessNumber S σ r off) 0)) [
-        | inl e ↦
-            let z : accessNumber S σ r off ≡ 0 = eqb-true (accessNumber S σ r off) 0 e in
-            let A : Accepted S σ r off = accepted S σ r off z in
-            rw e
-            (stands-accepted r off (written (S .w) (σ .store) (place S σ r) column bytes) (overwritten mem r column bytes) z (written-long S σ τ₀ τ I r column bytes z)
-            (stands-written S σ (I .sound) r (A .reached .row-in) mem st column bytes (ltb-false (S .w) (column + length bytes) (A .reached .span-in))))
-        | inr e ↦ rw (e, e) st
-      ]
-  stands-step tick = elim (split (eqb (tickNumber S σ) 0)) [ inl e ↦ rw e st | inr e ↦ rw e st ]
-  stands-step (inspect r) = elim (split (eqb (inspectNumber S σ r) 0)) [ inl e ↦ rw e st | inr e ↦ rw e st ]
+  abbrev Left : Call → Step → Type 0
+  Left c s = Stands S (s .state) (s .state .store) (remember mem (eventOf c s))
+
+  stands-step : (c : Call) → Left c (step S σ c)
+  stands-step = step-cases S σ Left (λ c n. rw (ne-eqb (ladder S σ c) 0 n) st) stands-accepted (λ z. st) (λ r z. st)
 
 -- ---- the list
 
@@ -84,14 +75,11 @@ module _ (S : Settings) where
       → RowsReturned S mem es × PartsHold S (remembered mem es) σ′
   rows-returned (end {σ}) τ₀ τ I mem st = (tt, parts-hold S σ τ₀ τ I mem st)
   rows-returned (call {σ} c rest) τ₀ τ I mem st =
-      let next = stands-step S σ τ₀ τ I mem st c in
-      elim (carried S σ τ₀ τ I c) [
-        | inl v ↦ let more = rows-returned rest _ _ (v .2) _ next in ((returns-row S σ τ₀ τ I mem st c, more .0), more .1)
-        | inr v ↦ let more = rows-returned rest τ₀ _ (v .1) _ next in ((returns-row S σ τ₀ τ I mem st c, more .0), more .1)
-      ]
+      let more = rows-returned rest _ _ (carried-on S σ τ₀ τ I c .1) _ (stands-step S σ τ₀ τ I mem st c) in
+      ((returns-row S σ τ₀ τ I mem st c, more .0), more .1)
   rows-returned (idle z rest) τ₀ τ I mem st =
       let more = rows-returned rest τ₀ τ I mem st in
-      rw (idle-memory mem z) ((idle-returns S mem z, more .0), more .1)
+      rw (idle-memory mem z) ((idle-accepted (ReturnsRow S mem) z, more .0), more .1)
 
 -- of every chain from set-up
 pub returned : (S : Settings) (σ : State) → (calls.setUp S σ) .number ≡ 0 → {σ′ : State} {es : List Event} → Chain S ((calls.setUp S σ) .state) es σ′

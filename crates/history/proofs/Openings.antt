@@ -7,7 +7,7 @@ use mathlib.Core.Path.{_≡_, refl}
 use mathlib.Core.Logic.{_⊎_, inl, inr, _≢_}
 use mathlib.Core.Bool.{Bool, true, false, true≢false, false≢true}
 use borrow.Author.Tests.{ne-eqb, eq-eqb}
-use Rattle.tracker.proofs.View.{Grew}
+use Rattle.tracking.proofs.View.{Grew}
 use Rattle.history.specs.Tally.{hit}
 
 -- the home of a row; first Bool: the row is at home, second: its slot is gone by

@@ -3,24 +3,23 @@ use Prim.Native.Nat.{ℕ}
 use native.Mathlib.Omega.{arith}
 use mathlib.Core.Path.{_≡_, refl, sym, ap, _∙_}
 use mathlib.Core.Logic.{inl, inr, _≢_}
-use mathlib.Core.Bool.{Bool}
 use mathlib.Core.List.{[], _∷_}
 use lib.ListN.{length}
 use borrow.Author.Tests.{ne-eqb}
 use Rattle.geometry.specs.declared.Settings.{Settings}
 use Rattle.engine.specs.State.{State}
-use Rattle.engine.specs.Ladder.{setUpNumber, tickNumber, inspectNumber, accessNumber, readOff, writeOff}
+use Rattle.engine.specs.Ladder.{setUpNumber, inspectNumber}
 use Rattle.engine.specs.Calls as calls
 use Rattle.engine.proofs.Facts.{fit-all, tick-all, access-all, inspect-all}
 use Rattle.engine.proofs.Parts.{part-long, width-some}
-use Rattle.history.specs.Run.{Call, read, write, tick, inspect, figureless, step, OneOf}
+use Rattle.history.specs.Run.{Call, access, tick, inspect, rowOf, figureless, OneOf}
 use Rattle.history.specs.Demand1.{allowed, bufferOf, Demand1}
-use Rattle.history.proofs.Calls.{ladder, step-number}
+use Rattle.history.proofs.Groups.{spanOff, ladder, step-number, refused-step}
 
 -- ---- the numbers
 
-access-allowed : (S : Settings) (σ : State) (r : ℕ) (off : Bool) → OneOf (0 ∷ 1 ∷ 2 ∷ 3 ∷ 4 ∷ 5 ∷ 6 ∷ 7 ∷ 8 ∷ 9 ∷ []) (accessNumber S σ r off)
-access-allowed S σ r off =
+ladder-allowed : (S : Settings) (σ : State) (c : Call) → OneOf (allowed c) (ladder S σ c)
+ladder-allowed S σ (access a) =
     access-all (OneOf (0 ∷ 1 ∷ 2 ∷ 3 ∷ 4 ∷ 5 ∷ 6 ∷ 7 ∷ 8 ∷ 9 ∷ []))
     (inl refl)
     (inr (inl refl))
@@ -32,11 +31,7 @@ access-allowed S σ r off =
     (inr (inr (inr (inr (inr (inr (inr (inl refl))))))))
     (inr (inr (inr (inr (inr (inr (inr (inr (inl refl)))))))))
     (inr (inr (inr (inr (inr (inr (inr (inr (inr (inl refl))))))))))
-    S σ r off
-
-ladder-allowed : (S : Settings) (σ : State) (c : Call) → OneOf (allowed c) (ladder S σ c)
-ladder-allowed S σ (read r buffer) = access-allowed S σ r (readOff S (length buffer))
-ladder-allowed S σ (write r column bytes) = access-allowed S σ r (writeOff S column (length bytes))
+    S σ (rowOf a) (spanOff S a)
 ladder-allowed S σ tick =
     tick-all (OneOf (0 ∷ 1 ∷ 2 ∷ 3 ∷ 4 ∷ []))
     (inl refl) (inr (inl refl)) (inr (inr (inl refl))) (inr (inr (inr (inl refl)))) (inr (inr (inr (inr (inl refl))))) S σ
@@ -45,15 +40,7 @@ ladder-allowed S σ (inspect r) =
     (inl refl) (inr (inl refl)) (inr (inr (inl refl))) (inr (inr (inr (inl refl)))) (inr (inr (inr (inr (inl refl)))))
     (inr (inr (inr (inr (inr (inl refl)))))) (inr (inr (inr (inr (inr (inr (inl refl))))))) S σ r
 
--- ---- what a refusal leaves
-
--- a call whose number is not 0
-pub refused : (S : Settings) (σ : State) (c : Call) → ladder S σ c ≢ 0 → step S σ c ≡ record { state = σ; answer = figureless (ladder S σ c) (bufferOf c) }
-unfolding step calls.read calls.write calls.tick calls.accessed calls.noted
-refused S σ (read r buffer) n = rw (ne-eqb (accessNumber S σ r (readOff S (length buffer))) 0 n)
-refused S σ (write r column bytes) n = rw (ne-eqb (accessNumber S σ r (writeOff S column (length bytes))) 0 n)
-refused S σ tick n = rw (ne-eqb (tickNumber S σ) 0 n)
-refused S σ (inspect r) n = refl
+-- ---- set-up
 
 set-up-kept : (S : Settings) (σ : State) → (calls.setUp S σ) .number ≢ 0 → (calls.setUp S σ) .state ≡ σ
 unfolding calls.setUp calls.noted
@@ -78,7 +65,7 @@ demand-1 =
       set-up-number = set-up-allowed;
       set-up-refused = set-up-kept;
       number = λ S σ c. rw (step-number S σ c) (ladder-allowed S σ c);
-      refused = λ S σ c n. refused S σ c (λ z. n (step-number S σ c ∙ z))
+      refused = λ S σ c n. refused-step S σ c (λ z. n (step-number S σ c ∙ z))
           ∙ ap (λ (x : ℕ). record { state = σ; answer = figureless x (bufferOf c) }) (sym (step-number S σ c));
       part-none = part-empty;
       part-some = part-some;

@@ -9,7 +9,7 @@ use borrow.Author.Tests.{ne-eqb, eq-eqb, eqb-true, eqb-false}
 use Rattle.geometry.specs.declared.Settings.{Settings}
 use Rattle.geometry.specs.Entry.{empty}
 use Rattle.geometry.proofs.Cases.{eq?}
-use Rattle.tracker.proofs.View.{Grew}
+use Rattle.tracking.proofs.View.{Grew}
 use Rattle.engine.specs.State.{State, forwardOf, reverseOf}
 use Rattle.engine.specs.Steps.{place}
 use Rattle.history.specs.Tally.{Tally, hit, afterStay}
@@ -22,8 +22,8 @@ use Rattle.history.proofs.Invariant.{Inv, estimate, gone, HomeKept, Slo
 
 -- the estimates before and after an access of place p
 pub record Estimated (S : Settings) (σ σ′ : State) (p : ℕ) : Type 0 where
-  pub same : estimate σ′ p ≡ suc (estimate σ p)
-  pub other : (x : ℕ) → x ≢ p → x ≢ empty → Grew (S .a) (estimate σ x) (estimate σ′ x)
+  pub same : estimate S σ′ p ≡ suc (estimate S σ p)
+  pub other : (x : ℕ) → x ≢ p → x ≢ empty → Grew (S .a) (estimate S σ x) (estimate S σ′ x)
 
 module _ (S : Settings) (σ : State) (τ₀ τ : Tally) (I : Inv S σ τ₀ τ) (r : ℕ) (row-in : r < S .n) (σ′ : State) (E : Estimated S σ σ′ (place S σ r)) where
   real : (x : ℕ) → x < S .n + S .q → x ≢ empty
@@ -36,13 +36,13 @@ module _ (S : Settings) (σ : State) (τ₀ τ : Tally) (I : Inv S σ τ₀ τ) 
   p-is = place-is S σ (I .sound) r row-in
 
   -- the estimate of a row that is not r's place
-  grew-home : (x : ℕ) → x < S .n → x ≢ r → Grew (S .a) (estimate σ x) (estimate σ′ x)
+  grew-home : (x : ℕ) → x < S .n → x ≢ r → Grew (S .a) (estimate S σ x) (estimate S σ′ x)
   grew-home x b n = E .other x (λ e. elim p-is [ inl c ↦ n (e ∙ c .1) | inr c ↦ omega (arith, c .1) ]) (real x (omega arith))
 
-  grew-slot : (s : ℕ) → s < S .q → s ≢ forwardOf σ r → Grew (S .a) (estimate σ (S .n + s)) (estimate σ′ (S .n + s))
+  grew-slot : (s : ℕ) → s < S .q → s ≢ forwardOf σ r → Grew (S .a) (estimate S σ (S .n + s)) (estimate S σ′ (S .n + s))
   grew-slot s b n = E .other (S .n + s) (λ e. elim p-is [ inl c ↦ omega (arith, c .1) | inr c ↦ n (omega (arith, c .1)) ]) (real (S .n + s) (omega arith))
 
-  same-at : (x : ℕ) → x ≡ place S σ r → estimate σ′ x ≡ suc (estimate σ x)
+  same-at : (x : ℕ) → x ≡ place S σ r → estimate S σ′ x ≡ suc (estimate S σ x)
   same-at x e = rw e (E .same)
 
   -- a slot that holds r is not empty
@@ -54,12 +54,13 @@ module _ (S : Settings) (σ : State) (τ₀ τ : Tally) (I : Inv S σ τ₀ τ) 
 
   -- ---- the row stays
 
-  module _ (rests : (m : ℕ) → 0 < m → estimate σ′ (place S σ r) ≢ m * S .a) where
-    multiple : (x m : ℕ) → x ≡ place S σ r → 0 < m → estimate σ′ x ≢ m * S .a
+  module _ (rests : (m : ℕ) → 0 < m → estimate S σ′ (place S σ r) ≢ m * S .a) where
+    multiple : (x m : ℕ) → x ≡ place S σ r → 0 < m → estimate S σ′ x ≢ m * S .a
     multiple x m e b = rw e (rests m b)
 
     pub home-stays : (x : ℕ) → x < S .n
-        → Home (S .a) ((afterStay S τ r) .openings x) (τ₀ .openings x) (estimate σ′ x) (eqb (forwardOf σ x) empty) (gone S σ (forwardOf σ x))
+        → Home (S .a) ((afterStay S τ r) .openings x) (τ₀ .openings x) (estimate S σ′ x)
+        (eqb (forwardOf σ x) empty) (gone S σ (forwardOf σ x))
     home-stays x b =
         elim (eq? x r) [
           | inr n ↦ home-rests (gone S σ (forwardOf σ x)) (I .homes x b) (λ h g. g) (omega (arith, hit-home S σ (I .sound) τ r row-in (I .places r row-in) x b n)) (grew-home x b n)
@@ -75,7 +76,8 @@ module _ (S : Settings) (σ : State) (τ₀ τ : Tally) (I : Inv S σ τ₀ τ) 
         ]
 
     pub slot-stays : (s : ℕ) → s < S .q
-        → Slot (S .a) ((afterStay S τ r) .openings (S .n + s)) (τ₀ .openings (S .n + s)) (estimate σ′ (S .n + s)) (gone S σ s) (eqb (reverseOf σ s) empty)
+        → Slot (S .a) ((afterStay S τ r) .openings (S .n + s)) (τ₀ .openings (S .n + s)) (estimate S σ′ (S .n + s))
+        (gone S σ s) (eqb (reverseOf σ s) empty)
     slot-stays s b =
         elim (eq? s (forwardOf σ r)) [
           | inr n ↦ slot-rests pos (I .slots s b) (omega (arith, hit-slot S σ (I .sound) τ r row-in (I .places r row-in) s n)) (grew-slot s b n)

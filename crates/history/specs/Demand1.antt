@@ -10,19 +10,22 @@ use Rattle.geometry.specs.declared.Settings.{Settings}
 use Rattle.engine.specs.State.{State}
 use Rattle.engine.specs.Ladder.{inspectNumber}
 use Rattle.engine.specs.Calls.{setUp, inspectPart}
-use Rattle.history.specs.Run.{Call, read, write, tick, inspect, figureless, step, OneOf}
+use Rattle.history.specs.Run.{Access, read, write, Call, access, tick, inspect, figureless, step, OneOf}
 
 -- the column 'calls' of 'Where each call can stop', and 0 for the service: the numbers that a call may answer
 abbrev pub allowed : Call → List ℕ
-allowed (read r buffer) = 0 ∷ 1 ∷ 2 ∷ 3 ∷ 4 ∷ 5 ∷ 6 ∷ 7 ∷ 8 ∷ 9 ∷ []
-allowed (write r column bytes) = 0 ∷ 1 ∷ 2 ∷ 3 ∷ 4 ∷ 5 ∷ 6 ∷ 7 ∷ 8 ∷ 9 ∷ []
+allowed (access a) = 0 ∷ 1 ∷ 2 ∷ 3 ∷ 4 ∷ 5 ∷ 6 ∷ 7 ∷ 8 ∷ 9 ∷ []
 allowed tick = 0 ∷ 1 ∷ 2 ∷ 3 ∷ 4 ∷ []
 allowed (inspect r) = 0 ∷ 1 ∷ 2 ∷ 3 ∷ 4 ∷ 5 ∷ 7 ∷ []
 
+-- the read buffer that an access is lent; a write is lent none
+abbrev pub lentBuffer : Access → List ℕ
+lentBuffer (read r buffer) = buffer
+lentBuffer (write r column bytes) = []
+
 -- the read buffer that a call is lent
 abbrev pub bufferOf : Call → List ℕ
-bufferOf (read r buffer) = buffer
-bufferOf (write r column bytes) = []
+bufferOf (access a) = lentBuffer a
 bufferOf tick = []
 bufferOf (inspect r) = []
 

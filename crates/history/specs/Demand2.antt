@@ -11,7 +11,8 @@ use Rattle.geometry.specs.Numbering.{homeRow}
 use Rattle.engine.specs.State.{State}
 use Rattle.engine.specs.Calls.{setUp, inspectPart}
 use Rattle.engine.specs.Tables.{Inverse}
-use Rattle.history.specs.Run.{Call, read, write, tick, inspect, Event, step, run, events, Each, OneOf}
+use Rattle.history.specs.Run.{Access, read, write, Call, access, tick, inspect, rowOf}
+use Rattle.history.specs.Run.{Answer, Event, step, run, events, OfAccepted, Each, OneOf}
 
 -- ---- 'forward and reverse tables are inverse'
 
@@ -35,10 +36,14 @@ abbrev pub overwritten : Memory → ℕ → ℕ → List ℕ → Memory
 overwritten mem r column bytes =
     λ x c. cond (eqb x r && (leb column c && ltb c (column + length bytes))) (getD bytes (c - column) 0) (mem x c)
 
--- an accepted write changes it, and nothing else does
+-- after an accepted access: a write changes it, a read does not
+abbrev pub withAccess : Memory → Access → Memory
+withAccess mem (read r buffer) = mem
+withAccess mem (write r column bytes) = overwritten mem r column bytes
+
+-- after any accepted call: nothing else changes it
 abbrev pub withCall : Memory → Call → Memory
-withCall mem (read r buffer) = mem
-withCall mem (write r column bytes) = overwritten mem r column bytes
+withCall mem (access a) = withAccess mem a
 withCall mem tick = mem
 withCall mem (inspect r) = mem
 
@@ -55,16 +60,15 @@ pub record IsRow (S : Settings) (mem : Memory) (r : ℕ) (bytes : List ℕ) : Ty
   pub long : length bytes ≡ S .w
   pub same : (c : ℕ) → c < S .w → getD bytes c 0 ≡ mem r c
 
--- an accepted read fills its buffer with its row
-abbrev pub ReturnsRow : Settings → Memory → Event → Call → Type 0
-ReturnsRow S mem e (read r buffer) = e .answer .number ≡ 0 → IsRow S mem r (e .answer .buffer)
-ReturnsRow S mem e (write r column bytes) = Unit {0}
-ReturnsRow S mem e tick = Unit {0}
-ReturnsRow S mem e (inspect r) = Unit {0}
+-- a read fills its buffer with its row
+abbrev pub ReturnsRow : Settings → Memory → Access → Answer → Type 0
+ReturnsRow S mem (read r buffer) answer = IsRow S mem r (answer .buffer)
+ReturnsRow S mem (write r column bytes) answer = Unit {0}
 
+-- each accepted read of a list does
 abbrev pub RowsReturned : Settings → Memory → List Event → Type 0
 RowsReturned S mem [] = Unit {0}
-RowsReturned S mem (e ∷ es) = ReturnsRow S mem e (e .call) × RowsReturned S (remember mem e) es
+RowsReturned S mem (e ∷ es) = OfAccepted (ReturnsRow S mem) e × RowsReturned S (remember mem e) es
 
 -- in the memory σ each row's part, as inspect gives it, is the row
 abbrev pub PartsHold : Settings → Memory → State → Type 0
@@ -87,10 +91,14 @@ OnlyUsual = (S : Settings) (σ : State) (cs : List Call) → (setUp S σ) .numbe
 
 -- ---- 'An access refused with 9 is accepted, given sound tables, if it is the first call after a tick.'
 
+-- the span of a read or a write is good
+abbrev pub GoodSpan : Settings → Access → Type 0
+GoodSpan S (read r buffer) = length buffer ≡ S .w
+GoodSpan S (write r column bytes) = column + length bytes ≤ S .w
+
 -- a read or a write whose row and span are good
 abbrev pub GoodAccess : Settings → Call → Type 0
-GoodAccess S (read r buffer) = (r < S .n) × (length buffer ≡ S .w)
-GoodAccess S (write r column bytes) = (r < S .n) × (column + length bytes ≤ S .w)
+GoodAccess S (access a) = (rowOf a < S .n) × GoodSpan S a
 GoodAccess S tick = ⊥
 GoodAccess S (inspect r) = ⊥
 

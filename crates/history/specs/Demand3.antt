@@ -8,9 +8,8 @@ use Rattle.geometry.specs.declared.Settings.{Settings}
 use Rattle.geometry.specs.Numbering.{homeRow, slotRow}
 use Rattle.engine.specs.State.{State}
 use Rattle.engine.specs.Calls.{setUp}
-use Rattle.history.specs.Tally.{Request, access, tick, inspect, Tally, start, feed}
-use Rattle.history.specs.Tally.{Stretch, openingsIn, quarantinesIn, epochs}
-use Rattle.history.specs.Run.{Call, Event, events, requestOf, reportOf, Each}
+use Rattle.history.specs.Tally.{Tally, start, feed, Stretch, openingsIn, quarantinesIn, epochs}
+use Rattle.history.specs.Run.{Access, Call, rowOf, Answer, Event, events, OfAccepted, reportOf, Each}
 
 -- what holds of an epoch
 pub record Bounded (S : Settings) (e : Stretch) : Type 0 where
@@ -25,15 +24,14 @@ pub record Bounded (S : Settings) (e : Stretch) : Type 0 where
 abbrev pub NoSlotWanting : Event → Type 0
 NoSlotWanting e = e .answer .number ≡ 9 → ⊥
 
--- 'each accepted access answers as p the place that the tally has for its row'
-abbrev pub AnswersPlace : Tally → Event → Request → Type 0
-AnswersPlace τ e (access r) = e .answer .number ≡ 0 → e .answer .place ≡ τ .place r
-AnswersPlace τ e tick = Unit {0}
-AnswersPlace τ e (inspect r) = Unit {0}
+-- an access answers as p the place that the tally has for its row
+abbrev pub AnswersPlace : Tally → Access → Answer → Type 0
+AnswersPlace τ a answer = answer .place ≡ τ .place (rowOf a)
 
+-- 'each accepted access answers as p the place that the tally has for its row'
 abbrev pub PlacesAnswered : Settings → Tally → List Event → Type 0
 PlacesAnswered S τ [] = Unit {0}
-PlacesAnswered S τ (e ∷ es) = AnswersPlace τ e (requestOf (e .call)) × PlacesAnswered S (feed S τ (reportOf e)) es
+PlacesAnswered S τ (e ∷ es) = OfAccepted (AnswersPlace τ) e × PlacesAnswered S (feed S τ (reportOf e)) es
 
 -- demand 3, of what the calls after set-up answered
 pub record Kept (S : Settings) (es : List Event) : Type 0 where

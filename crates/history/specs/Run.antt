@@ -12,15 +12,35 @@ use Rattle.engine.specs.Ladder.{inspectNumber}
 use Rattle.engine.specs.Calls as calls
 use Rattle.history.specs.Tally as tally
 
--- A call with its arguments. 'A read's buffer and a write's bytes serve their own call only.'
-pub data Call : Type 0 where
+-- A read or a write with its arguments. 'A read's buffer and a write's bytes serve their own call only.'
+-- (The enum `Access` of crate `engine` is what such a call answers.)
+pub data Access : Type 0 where
   -- row, buffer
-  read : ℕ → List ℕ → Call
+  read : ℕ → List ℕ → Access
   -- row, column, bytes
-  write : ℕ → ℕ → List ℕ → Call
+  write : ℕ → ℕ → List ℕ → Access
+
+-- A call with its arguments. Calls that are judged and tallied alike stand in one group, under one constructor.
+pub data Call : Type 0 where
+  -- a read or a write
+  access : Access → Call
   tick : Call
   -- row; either of inspect's two calls. The part that the second gives is no part of the list: it is asked for after it
   inspect : ℕ → Call
+
+-- ---- a read or a write
+
+-- its row
+abbrev pub rowOf : Access → ℕ
+rowOf (read r buffer) = r
+rowOf (write r column bytes) = r
+
+-- what it leaves and answers
+abbrev pub accessOf : Settings → State → Access → calls.Accessed
+accessOf S σ (read r buffer) = calls.read S σ r buffer
+accessOf S σ (write r column bytes) = calls.write S σ r column bytes
+
+-- ---- what a call answers and leaves
 
 -- What a call answers, in document 01's numbers.
 pub record Answer : Type 0 where
@@ -59,8 +79,7 @@ ofNoted c = record { state = c .state; answer = figureless (c .number) [] }
 
 -- one call, by the definitions that the engine's promises cite
 unfoldable pub step : Settings → State → Call → Step
-step S σ (read r buffer) = ofAccess (calls.read S σ r buffer)
-step S σ (write r column bytes) = ofAccess (calls.write S σ r column bytes)
+step S σ (access a) = ofAccess (accessOf S σ a)
 step S σ tick = ofNoted (calls.tick S σ)
 step S σ (inspect r) = record { state = σ; answer = figureless (inspectNumber S σ r) [] }
 
@@ -74,15 +93,28 @@ pub record Event : Type 0 where
   pub call : Call
   pub answer : Answer
 
+-- a call and its step, as an event
+abbrev pub eventOf : Call → Step → Event
+eventOf c s = record { call = c; answer = s .answer }
+
 abbrev pub events : Settings → State → List Call → List Event
 events S σ [] = []
-events S σ (c ∷ cs) = record { call = c; answer = (step S σ c) .answer } ∷ events S ((step S σ c) .state) cs
+events S σ (c ∷ cs) = eventOf c (step S σ c) ∷ events S ((step S σ c) .state) cs
+
+-- P holds of the access, if the call is one; of any other call nothing is said
+abbrev pub OfAccess : (Access → Type 0) → Call → Type 0
+OfAccess P (access a) = P a
+OfAccess P tick = Unit {0}
+OfAccess P (inspect r) = Unit {0}
+
+-- P holds of the access and its answer, if the event is an accepted access; of any other event nothing is said
+abbrev pub OfAccepted : (Access → Answer → Type 0) → Event → Type 0
+OfAccepted P e = OfAccess (λ a. e .answer .number ≡ 0 → P a (e .answer)) (e .call)
 
 -- ---- what the tally is fed of an event
 
 abbrev pub requestOf : Call → tally.Request
-requestOf (read r buffer) = tally.access r
-requestOf (write r column bytes) = tally.access r
+requestOf (access a) = tally.access (rowOf a)
 requestOf tick = tally.tick
 requestOf (inspect r) = tally.inspect r
 

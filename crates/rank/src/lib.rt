@@ -1,7 +1,7 @@
 // The face of the engine: thin entry functions over a control record that the caller lends, exported to C (see
 // include/aqua.h). They answer for any settings, arguments and lent memory; a refusal leaves everything as it was.
 // What each promises is one definition of crate `figures` (specs/Promises.antt); the theorem about them (crate `served`)
-// supposes these and nothing else. Rattle code may hold the record by value and call `calls` instead.
+// supposes these and nothing else. Rattle code may hold the record by value and call the crates `upkeep`, `look` and `access` instead.
 ghost use mathlib.Core.Path.{_≡_};
 ghost use Rattle.sizing.specs.declared.SizeTimes.{SizeTimes as SizeTimes-of};
 ghost use Rattle.sizing.specs.declared.RefreshTimes.{RefreshTimes as RefreshTimes-of};
@@ -44,7 +44,7 @@ pub fn read_core(
         (now (rows .exit)) (now (counts .exit)) (r .control) in
         ⌜ ReadPromise s before row (now (buffer .entry)) after (r .outcome) (now (buffer .exit)) ⌝ }
 {
-    let t = calls::read(
+    let t = access::read(
         control,
         s,
         row,
@@ -83,7 +83,7 @@ pub fn write_core(
         (now (rows .exit)) (now (counts .exit)) (r .control) in
         ⌜ WritePromise s before row column (now (bytes .entry)) after (r .outcome) ⌝ }
 {
-    let t = calls::write(
+    let t = access::write(
         control,
         s,
         row,
@@ -121,7 +121,7 @@ pub extern "C" fn aqua_set_up(
         (now (rows .exit)) (now (counts .exit)) (now (control .exit)) in
         ⌜ SetUpPromise s before after r ⌝ }
 {
-    let t = calls::set_up(*control, s, store, forward, reverse, rows, counts);
+    let t = upkeep::set_up(*control, s, store, forward, reverse, rows, counts);
     *control = t.control;
     t.number
 }
@@ -216,7 +216,7 @@ pub extern "C" fn aqua_tick(
         (now (rows .exit)) (now (counts .exit)) (now (control .exit)) in
         ⌜ TickPromise s before after r ⌝ }
 {
-    let t = calls::tick(*control, s, store, forward, reverse, rows, counts);
+    let t = upkeep::tick(*control, s, store, forward, reverse, rows, counts);
     *control = t.control;
     t.number
 }
@@ -238,7 +238,7 @@ pub extern "C" fn aqua_inspect_number(
         (now (rows .entry)) (now (counts .entry)) (now (control .entry)) in
         ⌜ InspectNumberPromise s lent row r ⌝ }
 {
-    ladder::inspect_number(*control, s, row, store, forward, reverse, rows, counts)
+    look::inspect_number(*control, s, row, store, forward, reverse, rows, counts)
 }
 
 // Inspect, by its second call: returns the part of the store that holds the row, of length 0 where the number is not 0.
@@ -257,7 +257,7 @@ pub fn inspect_part<'a>(
         (now (rows .entry)) (now (counts .entry)) (now (control .entry)) in
         ⌜ now r ≡ inspectPart s lent row ⌝ }
 {
-    calls::inspect_part(*control, s, row, store, forward, reverse, rows, counts)
+    look::inspect_part(*control, s, row, store, forward, reverse, rows, counts)
 }
 
 // Inspect, by its second call, for C: returns where that part lies, and 0 and 0 where the number is not 0.

@@ -1,45 +1,76 @@
 -- What is judged of a trace before its steps are run. Assumes nothing.
-use Prim.Native.Nat.{ℕ, _<_, _≤_}
+use Prim.Native.Nat.{ℕ, _+_, _-_, _*_, _<_, _≤_}
+use native.Mathlib.Nat.{mul-le-mul, add-le-add}
+use native.Mathlib.Omega.{arith}
 use mathlib.Core.Path.{_≡_, refl}
 use mathlib.Core.Logic.{_≢_}
 use mathlib.Core.Bool.{true}
 use mathlib.Core.List.{List, []}
+use mathlib.Core.Option.{Option}
+use lib.ListN.{take, drop}
 use borrow.Author.Tests.{ne-eqb, le-leb, lt-leb}
 use Rattle.geometry.specs.declared.Settings.{Settings}
-use Rattle.geometry.specs.Conditions.{rangesHold}
+use Rattle.conditions.specs.Conditions.{rangesHold}
+use Rattle.conditions.proofs.Facts.{ranges-facts}
 use Rattle.engine.specs.Ladder.{settingsNumber}
-use Rattle.engine.specs.Calls.{setUp}
 use Rattle.engine.proofs.Facts.{settings-facts}
-use Rattle.trace_file.specs.Form.{traceWithin}
+use Rattle.trace_file.specs.declared.Form.{Form}
+use Rattle.trace_file.specs.declared.Form.the-variants.{Refused, Trace}
+use Rattle.trace_file.specs.Form.{Recorded, traceWithin, recorded}
 use Rattle.trace_file.proofs.Sections.{enough-room}
-use Rattle.lines.specs.Lines.{bare, lineBytes}
-use Rattle.replay.specs.Steps.{storeBytes, lent, stepsFrom, linesFrom}
-use Rattle.replay.specs.Replay.{refusedLine, played, playedForm, replayed, printedOn}
+use Rattle.lines.specs.declared.Line.{Line}
+use Rattle.lines.specs.Lines.{bare}
+use Rattle.line_text.specs.LineText.{lineBytes}
+use Rattle.trace_steps.specs.Steps.{widest, runLines}
+use Rattle.replay.specs.Memory.{storeBytes, lent, mostStore, mostRows, mostSlots}
+use Rattle.replay.specs.Replay.{numberRoom, pageRoom, refusedLine, played, playedForm, replayed, printedOn}
+
+-- ---- the settings, and the store's size
 
 module _ (S : Settings) where
   pub ranges-accepted : settingsNumber S ≡ 0 → rangesHold S ≡ true
   ranges-accepted h = settings-facts S h .0
 
+  pub store-bound : settingsNumber S ≡ 0 → storeBytes S ≤ (mostRows + mostSlots) * widest
+  store-bound h =
+      let R = ranges-facts S (ranges-accepted h) in
+      mul-le-mul (add-le-add (R .n-high) (R .q-high)) (R .w-high)
+
   module _ (steps : List ℕ) where
-    pub settings-refused : (number : ℕ) → number ≡ settingsNumber S → number ≢ 0 → lineBytes 0 (bare number) ≡ played S steps
+    pub settings-refused : {number : ℕ} {line : Line} → number ≡ settingsNumber S → number ≢ 0 → line ≡ bare number
+        → lineBytes 0 line ≡ played S steps
     unfolding played
-    settings-refused number e h = rw (← e, ne-eqb number 0 h) refl
+    settings-refused {number} e h shown = rw (shown, ← e, ne-eqb number 0 h) refl
 
-    pub store-refused : settingsNumber S ≡ 0 → 32768 < storeBytes S → refusedLine ≡ played S steps
+    pub store-refused : settingsNumber S ≡ 0 → mostStore < storeBytes S → refusedLine ≡ played S steps
     unfolding played
-    store-refused e h = rw (e, lt-leb (storeBytes S) 32768 h) refl
+    store-refused e h = rw (e, lt-leb (storeBytes S) mostStore h) refl
 
-    pub all-run : settingsNumber S ≡ 0 → storeBytes S ≤ 32768
-        → linesFrom 1 (stepsFrom S ((setUp S (lent S)) .state) (S .w) steps) ≡ played S steps
+    pub all-run : settingsNumber S ≡ 0 → storeBytes S ≤ mostStore → runLines S (lent S) steps ≡ played S steps
     unfolding played
-    all-run e h = rw (e, le-leb (storeBytes S) 32768 h) refl
+    all-run e h = rw (e, le-leb (storeBytes S) mostStore h) refl
 
-module _ (text : List ℕ) (room : ℕ) where
-  pub page-short : room < 430185 → [] ≡ printedOn room text
+-- ---- the file's form, with the numbers of the file
+
+module _ {form : Form} (numbers : List ℕ) where
+  pub form-refused : form ≡ Refused → refusedLine ≡ playedForm (recorded form numbers)
+  form-refused e = rw e refl
+
+  pub form-played : {S : Settings} {count : ℕ} → form ≡ Trace S count
+      → played S (take (8 + count - 8) (drop 8 numbers)) ≡ playedForm (recorded form numbers)
+  form-played {S} {count} e =
+      let same : 8 + count - 8 ≡ count = omega arith in
+      rw (e, same) refl
+
+-- ---- the page
+
+module _ (text : List ℕ) {room : ℕ} where
+  pub page-short : room < pageRoom → [] ≡ printedOn room text
   unfolding printedOn
-  page-short h = rw (lt-leb 430185 room h) refl
+  page-short h = rw (lt-leb pageRoom room h) refl
 
-  -- the page is long enough for all lines, and the list of numbers for every trace
-  pub page-long : (places : ℕ) → 430185 ≤ room → 4104 ≤ places → playedForm (traceWithin places text) ≡ printedOn room text
+  -- the page has room for all lines, and the list of numbers for every trace
+  pub page-long : {places : ℕ} {said : Option Recorded} → pageRoom ≤ room → numberRoom ≤ places
+      → said ≡ traceWithin places text → playedForm said ≡ printedOn room text
   unfolding printedOn replayed
-  page-long places h wide = rw (le-leb 430185 room h, enough-room text places wide) refl
+  page-long {places} h wide e = rw (le-leb pageRoom room h, e, enough-room text places wide) refl

@@ -1,4 +1,2 @@
-pub mod Stepping
-pub mod Running
-pub mod Blank
+pub mod Memory
 pub mod Judging

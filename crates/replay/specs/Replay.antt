@@ -1,30 +1,40 @@
 -- Document 01, 'Trace program': from the bytes of a trace file to the bytes printed.
 -- Assumes nothing.
-use Prim.Native.Nat.{ℕ}
+use Prim.Native.Nat.{ℕ, _+_, _*_}
 use mathlib.Core.Bool.{cond}
 use mathlib.Core.List.{List, []}
 use mathlib.Core.Option.{Option, none, some}
 use lib.Dec.{eqb, leb}
 use Rattle.geometry.specs.declared.Settings.{Settings}
 use Rattle.engine.specs.Ladder.{settingsNumber}
-use Rattle.engine.specs.Calls as calls
 use Rattle.trace_file.specs.Form.{Recorded, traceIn}
 use Rattle.page.specs.Ascii.{ascii}
-use Rattle.lines.specs.Lines.{bare, lineBytes}
-use Rattle.replay.specs.Steps.{storeBytes, lent, stepsFrom, linesFrom}
+use Rattle.lines.specs.Lines.{bare}
+use Rattle.line_text.specs.LineText.{lineBytes}
+use Rattle.trace_steps.specs.Steps.{lineRoom, runLines}
+use Rattle.replay.specs.Memory.{storeBytes, lent, mostStore}
+
+-- 'n (0 to 4,096)'
+abbrev pub mostSteps : ℕ
+mostSteps = 4096
+
+-- room for the numbers of every trace: the steps, and eight before them
+abbrev pub numberRoom : ℕ
+numberRoom = 8 + mostSteps
+
+-- room for what any file prints: the lines of all steps, and one more
+abbrev pub pageRoom : ℕ
+pageRoom = lineRoom * (mostSteps + 1)
 
 -- 'Anything else prints the one line `trace refused`'
 abbrev pub refusedLine : List ℕ
 refusedLine = ascii "trace refused\n"
 
--- 'the settings, then the store's size': 'Settings refused print `0`, the number, `- - -`, and nothing more'; 'store at
--- most 32,768 bytes'
+-- 'the settings, then the store's size': 'Settings refused print `0`, the number, `- - -`, and nothing more'
 unfoldable pub played : Settings → List ℕ → List ℕ
 played S steps =
     cond (eqb (settingsNumber S) 0)
-    (cond (leb (storeBytes S) 32768)
-    (linesFrom 1 (stepsFrom S ((calls.setUp S (lent S)) .state) (S .w) steps))
-    refusedLine)
+    (cond (leb (storeBytes S) mostStore) (runLines S (lent S) steps) refusedLine)
     (lineBytes 0 (bare (settingsNumber S)))
 
 -- the same, where the form is refused too
@@ -36,7 +46,6 @@ playedForm (some trace) = played (trace .settings) (trace .steps)
 unfoldable pub replayed : List ℕ → List ℕ
 replayed text = playedForm (traceIn text)
 
--- all of it on a page of 105 × (4,096 + 1) bytes or more, which holds what any file prints; nothing on a shorter one.
--- What the page has after the bytes printed is left free
+-- all of it on a page with that room; nothing on a shorter one. What the page has after the bytes printed is left free
 unfoldable pub printedOn : ℕ → List ℕ → List ℕ
-printedOn room text = cond (leb 430185 room) (replayed text) []
+printedOn room text = cond (leb pageRoom room) (replayed text) []

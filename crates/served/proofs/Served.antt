@@ -6,7 +6,7 @@ use mathlib.Core.Bool.{false}
 use mathlib.Core.List.{List, [], _∷_, map}
 use native.Mathlib.Omega.{arith}
 use Rattle.geometry.specs.declared.Settings.{Settings}
-use Rattle.geometry.specs.Conditions.{lengthsHold}
+use Rattle.conditions.specs.Conditions.{lengthsHold}
 use Rattle.engine.specs.State.{State, lengthsOf}
 use Rattle.engine.specs.Ladder.{_▹_, settingsNumber, fitNumber, setUpNumber, tickNumber, accessNumber}
 use Rattle.engine.specs.Ladder as ladders
@@ -14,6 +14,7 @@ use Rattle.engine.specs.Calls as calls
 use Rattle.engine.proofs.Rungs.{halts, goes-on, applies}
 use Rattle.engine.proofs.Facts.{fit, settings-pass}
 use Rattle.figures.specs.declared.Outcome.{Outcome}
+use Rattle.figures.specs.declared.Span.{Span}
 use Rattle.figures.specs.Promises.{SetUpPromise, AccessPromise}
 use Rattle.figures.specs.Span.{spanOf}
 use Rattle.figures.proofs.Spans.{span-part}
@@ -23,7 +24,7 @@ use Rattle.history.specs.Demand3.{Kept}
 use Rattle.history.specs.Tally as tally
 use Rattle.history.specs.Run.{Each, OneOf}
 use Rattle.history.proofs.Invariant.{Inv}
-use Rattle.history.proofs.Calls.{ladder, step-number}
+use Rattle.history.proofs.Groups.{ladder, step-number}
 use Rattle.history.proofs.Chain.{Chain, end, call, idle, Idle, misfit as lent-misfit, looks}
 use Rattle.history.proofs.History.{inv-set-up, inv-chain, kept, usual-number}
 use Rattle.history.proofs.Memory.{returned}
@@ -40,6 +41,15 @@ data Tells : Exchange → Type 0 where
   tells-write : (row column : ℕ) (bytes : List ℕ) (outcome : Outcome) → Tells (write row column bytes outcome)
   tells-tick : (number : ℕ) → Tells (tick number)
   tells-number : (row number : ℕ) → Tells (inspectNumber row number)
+
+-- what holds of each exchange with an answer of its own, and of each span, holds of every exchange
+exchange-cases : (P : Exchange → Type 0) → ((x : Exchange) → Tells x → P x)
+    → ((row : ℕ) (span : Span) → P (inspectSpan row span)) → (x : Exchange) → P x
+exchange-cases P tells spans (read row buffer o filled) = tells _ (tells-read row buffer o filled)
+exchange-cases P tells spans (write row column bytes o) = tells _ (tells-write row column bytes o)
+exchange-cases P tells spans (tick number) = tells _ (tells-tick number)
+exchange-cases P tells spans (inspectNumber row number) = tells _ (tells-number row number)
+exchange-cases P tells spans (inspectSpan row span) = spans row span
 
 abbrev stepOf : State → run.Answer → run.Step
 stepOf σ answer = record { state = σ; answer = answer }
@@ -75,12 +85,9 @@ proper S before after x t p =
     }
 
 pub demand-1-served : Demand1Served
-demand-1-served S before after (read row buffer o filled) p = proper S before after _ (tells-read row buffer o filled) p
-demand-1-served S before after (write row column bytes o) p = proper S before after _ (tells-write row column bytes o) p
-demand-1-served S before after (tick number) p = proper S before after _ (tells-tick number) p
-demand-1-served S before after (inspectNumber row number) p = proper S before after _ (tells-number row number) p
-demand-1-served S before after (inspectSpan row span) p =
-    record { number = inl refl; kept = λ n. p .1; figures = λ n. absurd (n refl) }
+demand-1-served S before after =
+    exchange-cases (λ x. Promised S before x after → Proper before x after) (proper S before after)
+    (λ row span p. record { number = inl refl; kept = λ n. p .1; figures = λ n. absurd (n refl) })
 
 -- ---- a call that is lent another length
 
@@ -102,8 +109,7 @@ module _ (S : Settings) (settings : settingsNumber S ≡ 0) (lent : State) (othe
 
   ladder-3 : (c : run.Call) → ladder S lent c ≡ 3
   unfolding accessNumber
-  ladder-3 (run.read r buffer) = stops-at-3 _ tick-3
-  ladder-3 (run.write r column bytes) = stops-at-3 _ tick-3
+  ladder-3 (run.access a) = stops-at-3 _ tick-3
   ladder-3 run.tick = tick-3
   ladder-3 (run.inspect r) = inspect-3 r
 
@@ -125,20 +131,19 @@ module _ (S : Settings) (settings : settingsNumber S ≡ 0) (lent : State) (othe
   unfolding spanOf
   span-3 r = rw (inspect-3 r)
 
+  answers-3 : (x : Exchange) → Tells x → (seen x) .answer .number ≡ 3 → Answers3 x
+  answers-3 x (tells-read row buffer o filled) e = e
+  answers-3 x (tells-write row column bytes o) e = e
+  answers-3 x (tells-tick number) e = e
+  answers-3 x (tells-number row number) e = e
+
   misfits : (after : State) (x : Exchange) → Promised S lent x after → Misfit after x
-  misfits after (read row buffer o filled) p =
-      let t = tells-read row buffer o filled in
-      record { idles = lent-misfit (number-3 after _ t p); keeps = after-kept after _ t p; answers = number-3 after _ t p }
-  misfits after (write row column bytes o) p =
-      let t = tells-write row column bytes o in
-      record { idles = lent-misfit (number-3 after _ t p); keeps = after-kept after _ t p; answers = number-3 after _ t p }
-  misfits after (tick number) p =
-      let t = tells-tick number in
-      record { idles = lent-misfit (number-3 after _ t p); keeps = after-kept after _ t p; answers = number-3 after _ t p }
-  misfits after (inspectNumber row number) p =
-      let t = tells-number row number in
-      record { idles = lent-misfit (number-3 after _ t p); keeps = after-kept after _ t p; answers = number-3 after _ t p }
-  misfits after (inspectSpan row span) p = record { idles = looks row refl; keeps = p .1; answers = p .0 ∙ span-3 row }
+  misfits after =
+      exchange-cases (λ x. Promised S lent x after → Misfit after x)
+      (λ x t p.
+      let e = number-3 after x t p in
+      record { idles = lent-misfit e; keeps = after-kept after x t p; answers = answers-3 x t e })
+      (λ row span p. record { idles = looks row refl; keeps = p .1; answers = p .0 ∙ span-3 row })
 
 -- ---- the transcript
 
@@ -153,11 +158,11 @@ module _ (S : Settings) (settings : settingsNumber S ≡ 0) where
       (call ((seen x) .call) (subst (λ (s : run.Step). Chain S (s .state) es σ′) same rest))
 
   linked : {σ between σ′ : State} {es : List run.Event} (e : Logged) → Meets S σ e between → Chain S between es σ′ → Chain S σ (seenOf e ∷ es) σ′
-  linked (whole (read row buffer o filled)) m rest = joined _ (tells-read row buffer o filled) m rest
-  linked (whole (write row column bytes o)) m rest = joined _ (tells-write row column bytes o) m rest
-  linked (whole (tick number)) m rest = joined _ (tells-tick number) m rest
-  linked (whole (inspectNumber row number)) m rest = joined _ (tells-number row number) m rest
-  linked {σ′ = σ′} {es} (whole (inspectSpan row span)) m rest = idle (looks row refl) (subst (λ (s : State). Chain S s es σ′) (m .1) rest)
+  linked {σ} {between} {σ′} {es} (whole x) m rest =
+      exchange-cases (λ x. Promised S σ x between → Chain S σ (seen x ∷ es) σ′)
+      (λ x t p. joined x t p rest)
+      (λ row span p. idle (looks row refl) (subst (λ (s : State). Chain S s es σ′) (p .1) rest))
+      x m
   linked {σ′ = σ′} {es} (misfit lent after x) m rest =
       let k = misfits S settings lent (m .0) after x (m .1) in
       idle (k .idles) (subst (λ (s : State). Chain S s es σ′) (m .2 (k .keeps)) rest)
@@ -177,11 +182,11 @@ module _ (S : Settings) (settings : settingsNumber S ≡ 0) where
       subst (OneOf (0 ∷ 5 ∷ 6 ∷ 8 ∷ 9 ∷ [])) (ap (λ (s : run.Step). s .answer .number) (sym (told S σ between x t p))) (usual-number S σ τ₀ τ I ((seen x) .call))
 
   number-occurs : (σ between : State) (e : Logged) → Meets S σ e between → (τ₀ τ : tally.Tally) → Inv S σ τ₀ τ → NumberOccurs e
-  number-occurs σ between (whole (read row buffer o filled)) m τ₀ τ I = usual-told σ between _ (tells-read row buffer o filled) m τ₀ τ I
-  number-occurs σ between (whole (write row column bytes o)) m τ₀ τ I = usual-told σ between _ (tells-write row column bytes o) m τ₀ τ I
-  number-occurs σ between (whole (tick number)) m τ₀ τ I = usual-told σ between _ (tells-tick number) m τ₀ τ I
-  number-occurs σ between (whole (inspectNumber row number)) m τ₀ τ I = usual-told σ between _ (tells-number row number) m τ₀ τ I
-  number-occurs σ between (whole (inspectSpan row span)) m τ₀ τ I = inl refl
+  number-occurs σ between (whole x) m τ₀ τ I =
+      exchange-cases (λ x. Promised S σ x between → OneOf (0 ∷ 5 ∷ 6 ∷ 8 ∷ 9 ∷ []) ((seen x) .answer .number))
+      (λ x t p. usual-told σ between x t p τ₀ τ I)
+      (λ row span p. inl refl)
+      x m
   number-occurs σ between (misfit lent after x) m τ₀ τ I = misfits S settings lent (m .0) after x (m .1) .answers
 
   numbers-occur : (es : List Logged) (σ σ′ : State) → Transcript S σ es σ′ → (τ₀ τ : tally.Tally) → Inv S σ τ₀ τ → Each NumberOccurs es

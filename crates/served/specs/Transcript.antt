@@ -5,7 +5,7 @@ use mathlib.Core.Path.{_≡_}
 use mathlib.Core.Bool.{false}
 use mathlib.Core.List.{List, [], _∷_}
 use Rattle.geometry.specs.declared.Settings.{Settings}
-use Rattle.geometry.specs.Conditions.{lengthsHold}
+use Rattle.conditions.specs.Conditions.{lengthsHold}
 use Rattle.engine.specs.State.{State, lengthsOf}
 use Rattle.figures.specs.declared.Outcome.{Outcome}
 use Rattle.figures.specs.declared.Span.{Span}
@@ -57,12 +57,12 @@ Transcript S σ (e ∷ es) σ′ = (between : State) × (Meets S σ e between ×
 abbrev pub seen : Exchange → run.Event
 seen (read row buffer o filled) =
     record {
-      call = run.read row buffer;
+      call = run.access (run.read row buffer);
       answer = record { number = o .number; slot = o .slot; row = o .row; place = o .place; buffer = filled };
     }
 seen (write row column bytes o) =
     record {
-      call = run.write row column bytes;
+      call = run.access (run.write row column bytes);
       answer = record { number = o .number; slot = o .slot; row = o .row; place = o .place; buffer = [] };
     }
 seen (tick number) = record { call = run.tick; answer = run.figureless number [] }

@@ -1,11 +1,11 @@
 -- Within the ranges: how large each product of the sums can be, and that no divisor is 0. Assumes nothing.
-use Prim.Native.Nat.{ℕ, _+_, _-_, _*_, _≤_, _<_}
+use Prim.Native.Nat.{_-_, _*_, _≤_, _<_}
 use mathlib.Core.Path.{_≡_}
 use mathlib.Core.Bool.{true}
 use native.Mathlib.Nat.{mul-le-mul}
 use native.Mathlib.Omega.{arith}
 use borrow.Author.Tests.{ltb-true}
-use Rattle.geometry.specs.Conditions.{inRange}
+use Rattle.geometry.specs.Ranges.{inRange}
 use Rattle.geometry.proofs.Tests.{and-left, and-right, low, high}
 use Rattle.sizing.specs.declared.SizeTimes.{SizeTimes}
 use Rattle.sizing.specs.declared.RefreshTimes.{RefreshTimes}

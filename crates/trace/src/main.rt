@@ -1,21 +1,24 @@
 // Replays the trace file on standard input, and prints its lines on standard output (document 01, 'Trace program').
 ghost use mathlib.Core.Path.{_≡_};
 ghost use lib.ListN.{length};
+ghost use Rattle.replay.specs.Replay.{pageRoom};
 use libc::STDIN_FILENO;
 use libc::STDOUT_FILENO;
 
-// One byte more than the longest file, so that a longer one is seen to be longer.
-fn text_buffer() -> [u8; 65537]
+// The buffer for the text has one byte more than the longest file, so that a longer one is seen to be longer.
+const TEXT: usize = 65537;
+
+fn text_buffer() -> [u8; TEXT]
     ensures { λ r. ⌜ 65537 ≡ length r ⌝ }
 {
-    [0u8; 65537]
+    [0u8; TEXT]
 }
 
-// What any file prints fits.
-fn page_buffer() -> [u8; 430185]
-    ensures { λ r. ⌜ 430185 ≡ length r ⌝ }
+// What any file prints fits the page.
+fn page_buffer() -> [u8; replay::PAGE]
+    ensures { λ r. ⌜ pageRoom ≡ length r ⌝ }
 {
-    [0u8; 430185]
+    [0u8; replay::PAGE]
 }
 
 fn main() {

@@ -12,7 +12,7 @@ use lib.Seq.{length-take-le, getD-take, take-add, drop-at}
 use borrow.Author.Tests.{le-leb, lt-leb, leb-true, leb-false, eqb-true, ne-eqb}
 use Rattle.geometry.proofs.Cases.{split}
 use Rattle.geometry.proofs.Tests.{and-left, and-right}
-use Rattle.trace_file.specs.Numbers.{numbers, readable, numbersWithin}
+use Rattle.number_text.specs.Numbers.{numbers, readable, numbersWithin}
 use Rattle.trace_file.specs.Form.{hasSections, settingsOf, sections, traceIn, traceWithin}
 
 -- not as many numbers as the second count says

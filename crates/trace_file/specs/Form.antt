@@ -9,7 +9,7 @@ use lib.ListN.{length, getD, take, drop}
 use Rattle.geometry.specs.declared.Settings.{Settings}
 use Rattle.trace_file.specs.declared.Form.{Form}
 use Rattle.trace_file.specs.declared.Form.the-variants.{Refused, Trace}
-use Rattle.trace_file.specs.Numbers.{numbers, readable}
+use Rattle.number_text.specs.Numbers.{numbers, readable}
 
 -- what a trace file says
 pub record Recorded : Type 0 where

@@ -1,44 +1,16 @@
-// The form of a trace file (document 01, 'Trace program'): bytes to numbers, numbers to settings and steps.
-// Every public function answers for any text.
+// The form of a trace file (document 01, 'Trace program'): from its numbers to settings and steps.
+// The public function answers for any text.
 ghost use mathlib.Core.Path.{_≡_};
 ghost use Prim.Native.Nat.{_≤_};
 ghost use lib.ListN.{length, take};
-ghost use Rattle.trace_file.specs.Numbers.{numbersWithin, listed, counted};
 ghost use Rattle.trace_file.specs.Form.{sections, traceWithin, recorded, stepCount};
 use geometry::Settings;
-use scanner::Scan;
-
-mod scanner;
-
-// What a text of decimal numbers is: unreadable, or so many numbers, which stand at the start of the lent list.
-pub enum Numbers {
-    Unreadable,
-    Count(usize),
-}
+use number_text::Numbers;
 
 // What a trace file is: refused, or settings and so many steps, which stand in the lent list from index 8 on.
 pub enum Form {
     Refused,
     Trace(Settings, usize),
-}
-
-// Reads the decimal numbers of a text into the lent list. A text with more numbers than the list holds is unreadable too.
-pub fn read_numbers(text: &[u8], list: &mut [u32]) -> Numbers
-    ensures numbers { λ r.
-        ⌜ listed r (now (list .exit)) ≡ numbersWithin (length (now (list .entry))) (now (text .entry)) ⌝ }
-    ensures within { λ r. ⌜ counted r ≤ length (now (list .entry)) ⌝ }
-{
-    let mut s = Scan::START;
-    let mut i: usize = 0;
-    while i < text.len() {
-        s = scanner::eat(list, s, text[i]);
-        i += 1;
-    }
-    let last = scanner::end_number(list, s);
-    if last.good {
-        return Numbers::Count(last.count);
-    }
-    Numbers::Unreadable
 }
 
 // The longest trace file, in bytes.
@@ -86,7 +58,7 @@ pub fn parse(text: &[u8], numbers: &mut [u32]) -> Form
     if MOST_BYTES < text.len() {
         return Form::Refused;
     }
-    let found = read_numbers(text, numbers);
+    let found = number_text::read_numbers(text, numbers);
     match found {
         Numbers::Unreadable => Form::Refused,
         Numbers::Count(count) => sections_of(numbers, count),

@@ -7,12 +7,9 @@ pub struct Vector {
     pub printed: String,
 }
 
-/// The session that document 01 prints.
-const SESSION: (&str, &str) = (
-    "6 4 2 1 2 2 5 17 1 1 1 1 1 1 65535 1 1 2 2 3 65535 3 3 2 2",
-    "1 0 1 - -\n2 0 1 0 -\n3 0 4 - -\n4 0 4 1 -\n5 0 5 - -\n6 8 - - -\n7 0 - - -\n8 0 5 - -\n9 0 5 0 -\n10 0 2 - -\n\
-     11 0 2 1 -\n12 0 3 - -\n13 0 - - -\n14 0 3 - -\n15 0 3 0 1\n16 0 5 - -\n17 9 - - -\n",
-);
+/// Document 01's session, from the repository's examples: the trace file and the lines printed for it.
+const SESSION: (&str, &str) =
+    (include_str!("../../../examples/session.trace"), include_str!("../../../examples/session.lines"));
 
 /// Steps and settings, worked out line by line.
 const DERIVED: [(&str, &str); 18] = [
@@ -100,18 +97,19 @@ pub fn all() -> Vec<Vector> {
         |&(file, printed): &(&str, &str)| Vector { file: file.as_bytes().to_vec(), printed: printed.to_string() };
     let mut all: Vec<Vector> = std::iter::once(&SESSION).chain(&DERIVED).map(pair).collect();
     all.extend(NO_TRACE.map(|file| Vector { file: file.as_bytes().to_vec(), printed: REFUSED.to_string() }));
-    // The session in a file of exactly 65,536 bytes, and in one of a byte more.
+    // The session's numbers in a file of exactly 65,536 bytes, and in one of a byte more.
+    let session = SESSION.0.trim_end();
     for (length, printed) in [(65_536, SESSION.1), (65_537, REFUSED)] {
         for with in [' ', '\n', '0'] {
-            let fill = with.to_string().repeat(length - SESSION.0.len());
-            all.push(Vector { file: format!("{fill}{}", SESSION.0).into_bytes(), printed: printed.to_string() });
+            let fill = with.to_string().repeat(length - session.len());
+            all.push(Vector { file: format!("{fill}{session}").into_bytes(), printed: printed.to_string() });
         }
     }
     // The session with its first number behind 400 zeros, and with a row of 10 to the 400 in place of the last.
     let zeros = "0".repeat(400);
-    all.push(Vector { file: format!("{zeros}{}", SESSION.0).into_bytes(), printed: SESSION.1.to_string() });
-    let cut = SESSION.0.len() - 1;
-    all.push(Vector { file: format!("{}1{zeros}", &SESSION.0[..cut]).into_bytes(), printed: REFUSED.to_string() });
+    all.push(Vector { file: format!("{zeros}{session}").into_bytes(), printed: SESSION.1.to_string() });
+    let before_last = session.trim_end_matches(|c: char| c.is_ascii_digit());
+    all.push(Vector { file: format!("{before_last}1{zeros}").into_bytes(), printed: REFUSED.to_string() });
     // The most steps: row 3 and ticks in turn. One step more is refused.
     let pairs = |count: usize| "3 65535 ".repeat(count / 2) + if count.is_multiple_of(2) { "" } else { "3" };
     let lines = |count: usize| -> String {

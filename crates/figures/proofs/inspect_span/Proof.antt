@@ -2,7 +2,7 @@
 use mathlib.Core.Path.{refl}
 use native.Mathlib.Omega.{arith}
 use Rattle.engine.specs.State.{stateOf}
-use Rattle.engine.proofs.Parts.{row-located, part-inside}
+use Rattle.engine.proofs.Parts.{row-fits, part-inside}
 use borrow.Author.Needs.{needs}
 use Rattle.figures.proofs.Spans.{span-none, span-row}
 use Rattle.figures.proofs.inspect_span.Statement.{statement}
@@ -17,11 +17,11 @@ returns c =
     let σ = stateOf (a .store .now) (a .forward .now) (a .reverse .now) (a .rows .now) (a .counts .now) (a .control) in
     span-none (a .s) σ (a .row) (c .before .inspect-number .result) (c .before .inspect-number .ensures) (c .if1 .taken) _ refl
 
-place-requires : tie.Need-place-requires
-place-requires c κs =
+place-of-requires : tie.Need-place-of-requires
+place-of-requires c κs =
     let a = c .before .before .before .before .before .before .before .args in
     let σ = stateOf (a .store .now) (a .forward .now) (a .reverse .now) (a .rows .now) (a .counts .now) (a .control) in
-    row-located (a .s) σ (a .row) (c .before .inspect-number .result) (c .before .inspect-number .ensures) (c .if1 .left)
+    row-fits (a .s) σ (a .row) (c .before .inspect-number .result) (c .before .inspect-number .ensures) (c .if1 .left)
 
 cast-w : tie.Need-cast-w
 cast-w c = search needs
@@ -31,14 +31,14 @@ mul-t14 c =
     let a = c .before .before .before .before .before .before .before .before .before .args in
     let σ = stateOf (a .store .now) (a .forward .now) (a .reverse .now) (a .rows .now) (a .counts .now) (a .control) in
     omega
-    (arith, part-inside (a .s) σ (a .row) (c .before .before .before .inspect-number .result) (c .before .before .before .inspect-number .ensures) (c .before .before .if1 .left) (c .before .place .result) (c .before .place .ensures))
+    (arith, part-inside (a .s) σ (a .row) (c .before .before .before .inspect-number .result) (c .before .before .before .inspect-number .ensures) (c .before .before .if1 .left) (c .before .place-of .result) (c .before .place-of .ensures))
 
 returns-2 : tie.Need-returns-2
 returns-2 c =
     let a = c .before .before .before .before .before .before .before .before .before .args in
     let σ = stateOf (a .store .now) (a .forward .now) (a .reverse .now) (a .rows .now) (a .counts .now) (a .control) in
     span-row (a .s) σ (a .row) (c .before .before .before .inspect-number .result) (c .before .before .before .inspect-number .ensures)
-    (c .before .before .if1 .left) (c .before .place .result) (c .before .place .ensures) _ refl
+    (c .before .before .if1 .left) (c .before .place-of .result) (c .before .place-of .ensures) _ refl
 
 pub inspect-span-spec : {M : Type 1} → statement M
 inspect-span-spec =
@@ -46,7 +46,7 @@ inspect-span-spec =
     (tie.spec
     inspect-number-requires
     returns
-    place-requires
+    place-of-requires
     cast-w
     mul-t14
     returns-2)

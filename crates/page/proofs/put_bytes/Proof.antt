@@ -1,10 +1,5 @@
 -- `page::put_bytes` meets its contract. Assumes nothing.
-use Prim.Native.Nat.{ℕ}
-use mathlib.Core.Path.{_≡_, sym, _∙_, ap, subst}
-use mathlib.Core.List.{List}
-use lib.ListN.{length}
 use borrow.Author.Needs.{needs}
-use Rattle.page.specs.Put.{Put}
 use Rattle.page.proofs.Puts.{put-paste}
 use Rattle.page.proofs.put_bytes.Statement.{statement}
 use Rattle.page.proofs.put_bytes.Tie as tie

@@ -1,6 +1,5 @@
 -- `page::spell` meets its contract: the digits are written from the last. Assumes nothing.
-use Prim.Native.Nat.{_+_, _-_, _%_}
-use mathlib.Core.Path.{_∙_}
+use native.Mathlib.Omega.{arith}
 use lib.ListN.{length-set}
 use borrow.Author.Needs.{needs}
 use Rattle.page.proofs.Digits.{Spelling, spelling-none, spelling-more, spelling-last, spelling-full}
@@ -29,9 +28,7 @@ slice-write-digits : tie.Need-slice-write-digits Inv-loop μ-loop
 slice-write-digits c = search needs
 
 same-length : tie.Need-same-length Inv-loop μ-loop
-same-length c =
-    let l = c .before .before .loop in
-    length-set (l .digits) (l .i - 1) (48 + l .rest % 10) ∙ (l .inv .long ∙ search needs)
+same-length c = simp length-set (omega arith)
 
 returns : tie.Need-returns Inv-loop μ-loop
 returns c =

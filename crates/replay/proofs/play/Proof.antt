@@ -1,15 +1,24 @@
--- `replay::play` meets its contract. Assumes nothing.
-use Prim.Native.Nat.{_+_, _*_}
-use native.Mathlib.Nat.{mul-le-mul, add-le-add}
+-- `replay::play` meets its contract: the settings, the store's size, and then the steps. Assumes nothing.
 use native.Mathlib.Omega.{arith}
-use mathlib.Core.Path.{refl, sym, _∙_, ap}
-use Rattle.lines.specs.declared.Line.{Line}
-use Rattle.lines.specs.Lines.{lineBytes}
-use Rattle.geometry.proofs.Facts.{ranges-facts}
-use Rattle.replay.proofs.Judging.{ranges-accepted, settings-refused, store-refused, all-run}
+use mathlib.Core.Path.{_≡_, refl, sym, _∙_}
+use Rattle.engine.specs.Ladder.{settingsNumber}
+use Rattle.replay.proofs.Judging.{ranges-accepted, store-bound, settings-refused, store-refused, all-run}
 use borrow.Author.Needs.{needs}
 use Rattle.replay.proofs.play.Statement.{statement}
 use Rattle.replay.proofs.play.Tie as tie
+
+-- ---- the place that the needs look back to
+
+abbrev begun : tie.Else1 → tie.Start
+begun p = p .before .before .before .before
+
+-- ---- what they know
+
+-- the settings are accepted
+accepted : (p : tie.Else1) → settingsNumber (begun p .args .s) ≡ 0
+accepted p = sym (p .before .settings-number .ensures) ∙ p .if1 .left
+
+-- ---- the needs
 
 settings-number-requires : tie.Need-settings-number-requires
 settings-number-requires c κs = search needs
@@ -21,17 +30,19 @@ put-line-requires : tie.Need-put-line-requires
 put-line-requires c κs = search needs
 
 same-length : tie.Need-same-length
-same-length c = search needs
+same-length c = c .before .before .put-line .kept .0
 
 returns : tie.Need-returns
 returns c =
-    let t = c .before .before in
-    let n = t .before .before .before .before in
-    let a = n .before .before .before .args in (
-      omega (arith, t .put-line .ensures .0, n .before .before .before .pre),
-      t .put-line .ensures .1 .printed
-          ∙ (ap (λ (l : Line). lineBytes 0 l) (t .before .bare .ensures)
-          ∙ settings-refused (a .s) (a .steps .now) _ (n .settings-number .ensures) (t .before .before .before .if1 .taken)),
+    let t = c .before .before .before .before .before in
+    let n = t .before in
+    let b = n .before .before .before in
+    let a = b .args in
+    let put = c .before .before .put-line .ensures in
+    let judged = n .settings-number .ensures in
+    let shown = c .before .before .before .bare .ensures in (
+      omega (arith, put .0, b .pre),
+      put .1 .printed ∙ settings-refused (a .s) (a .steps .now) judged (t .if1 .taken) shown,
     )
 
 cast-size : tie.Need-cast-size
@@ -48,49 +59,39 @@ cast-size-3 c = search needs
 
 mul-size : tie.Need-mul-size
 mul-size c =
-    let n = c .before .before .before .before in
-    let a = n .before .before .before .args in
-    let f = ranges-facts (a .s) (ranges-accepted (a .s) (sym (n .settings-number .ensures) ∙ c .before .before .before .if1 .left)) in
-    record { fits = omega (arith, mul-le-mul (add-le-add (f .n-high) (f .q-high)) (f .w-high)) }
+    let p = c .before .before .before in
+    record { fits = omega (arith, store-bound (begun p .args .s) (accepted p)) }
 
 put-refused-requires : tie.Need-put-refused-requires
 put-refused-requires c κs = search needs
 
 same-length-2 : tie.Need-same-length-2
-same-length-2 c = search needs
+same-length-2 c = c .before .before .put-refused .kept .0
 
 returns-2 : tie.Need-returns-2
 returns-2 c =
-    let t = c .before .before in
-    let n = t .before .before .before .before .before .before .before in
-    let a = n .before .before .before .args in (
-      t .put-refused .ensures .0,
-      t .put-refused .ensures .1
-          ∙ store-refused (a .s) (a .steps .now) (sym (n .settings-number .ensures) ∙ t .before .before .before .before .before .before .if1 .left) (t .before .before .if2 .taken),
-    )
+    let t = c .before .before .before .before in
+    let p = t .before .before .before .before in
+    let a = begun p .args in
+    let put = c .before .before .put-refused .ensures in
+    (put .0, put .1 ∙ store-refused (a .s) (a .steps .now) (accepted p) (t .if2 .taken))
 
-on-new-store-requires : tie.Need-on-new-store-requires
-on-new-store-requires c κs =
-    let n = c .before .before .before .before .before .before in
-    let a = n .before .before .before .args in (
-      ranges-accepted (a .s) (sym (n .settings-number .ensures) ∙ c .before .before .before .before .before .if1 .left),
-      refl,
-      c .before .if2 .left,
-      omega (arith, n .before .before .before .pre),
-    )
+on-new-memory-requires : tie.Need-on-new-memory-requires
+on-new-memory-requires c κs =
+    let p = c .before .before .before .before .before in
+    let b = begun p in
+    (ranges-accepted (b .args .s) (accepted p), refl, c .before .if2 .left, omega (arith, b .pre))
 
 same-length-3 : tie.Need-same-length-3
-same-length-3 c = search needs
+same-length-3 c = c .before .before .on-new-memory .kept .1 .1 .1 .0
 
 returns-3 : tie.Need-returns-3
 returns-3 c =
-    let t = c .before .before in
-    let n = t .before .before .before .before .before .before .before in
-    let a = n .before .before .before .args in (
-      t .on-new-store .ensures .0,
-      t .on-new-store .ensures .1
-          ∙ all-run (a .s) (a .steps .now) (sym (n .settings-number .ensures) ∙ t .before .before .before .before .before .before .if1 .left) (t .before .before .if2 .left),
-    )
+    let t = c .before .before .before .before in
+    let p = t .before .before .before .before in
+    let a = begun p .args in
+    let ran = c .before .before .on-new-memory .ensures in
+    (ran .0, ran .1 ∙ all-run (a .s) (a .steps .now) (accepted p) (t .if2 .left))
 
 pub play-spec : {M : Type 1} → statement M
 play-spec =
@@ -109,6 +110,6 @@ play-spec =
     put-refused-requires
     same-length-2
     returns-2
-    on-new-store-requires
+    on-new-memory-requires
     same-length-3
     returns-3)

@@ -1,14 +1,20 @@
--- `replay::play_form` meets its contract. Assumes nothing.
-use Prim.Native.Nat.{ℕ, _+_, _-_}
+-- `replay::play_form` meets its contract: what the form says. Assumes nothing.
+use Prim.Native.Nat.{ℕ, _+_, _-_, _≤_}
 use native.Mathlib.Omega.{arith}
-use mathlib.Core.Path.{_≡_, sym, _∙_, ap}
-use lib.ListN.{take, drop, length-take}
-use Rattle.trace_file.specs.declared.Form.{Form}
-use Rattle.trace_file.specs.Form.{recorded}
-use Rattle.replay.specs.Replay.{played, playedForm}
+use mathlib.Core.Path.{_∙_}
+use lib.ListN.{drop, length-take}
+use Rattle.replay.specs.Replay.{mostSteps}
+use Rattle.replay.proofs.Judging.{form-refused, form-played}
 use borrow.Author.Needs.{needs}
 use Rattle.replay.proofs.play_form.Statement.{statement}
 use Rattle.replay.proofs.play_form.Tie as tie
+
+-- where the form is a trace: how many steps there are
+abbrev count : tie.After-known-told → ℕ
+count k = k .before .form .given .0 .1 .0
+
+few : (k : tie.After-known-told) → count k ≤ mostSteps
+few k = rw (k .before .form .given .1) at (k .before .before .before .before .before .pre .0)
 
 enum-told : tie.Need-enum-told
 enum-told c = search needs
@@ -20,9 +26,7 @@ enum-known-form : tie.Need-enum-known-form
 enum-known-form c = search needs
 
 add-end : tie.Need-add-end
-add-end c =
-    let within = rw (c .before .form .given .1) at (c .before .before .before .before .before .pre .0) in
-    record { fits = omega (arith, within) }
+add-end c = record { fits = omega (arith, few c) }
 
 sub-play : tie.Need-sub-play
 sub-play c = search needs
@@ -31,43 +35,33 @@ part-play-start : tie.Need-part-play-start
 part-play-start c = search needs
 
 part-play-end : tie.Need-part-play-end
-part-play-end c =
-    let within = rw (c .before .form .given .1) at (c .before .before .before .before .before .pre .0) in
-    omega (arith, within, c .before .before .before .before .before .pre .1)
+part-play-end c = omega (arith, few c, c .before .before .before .before .before .pre .1)
 
 play-requires : tie.Need-play-requires
 play-requires c κs =
-    let start = c .before .before .before .before .before .before .before in
-    let form = c .before .before .before .form .given in
-    let within = rw (form .1) at (start .pre .0) in
-    omega (arith, within, start .pre .2, length-take (8 + form .0 .1 .0 - 8) (drop 8 (start .args .numbers .now)))
+    let k = c .before .before in
+    let b = k .before .before .before .before .before in
+    omega (arith, few k, b .pre .2, length-take (8 + count k - 8) (drop 8 (b .args .numbers .now)))
 
 same-length : tie.Need-same-length
-same-length c = search needs
+same-length c = c .before .before .put-refused .kept .0
 
 returns : tie.Need-returns
 returns c =
-    let t = c .before .before in
-    let a = t .before .before .before .before .before .before .args in (
-      t .put-refused .ensures .0,
-      t .put-refused .ensures .1 ∙ ap (λ (f : Form). playedForm (recorded f (a .numbers .now))) (sym (t .before .before .enum-told .given .1)),
-    )
+    let k = c .before .before .before .before in
+    let a = k .before .before .before .before .args in
+    let put = c .before .before .put-refused .ensures in
+    (put .0, put .1 ∙ form-refused (a .numbers .now) (k .enum-told .given .1))
 
 same-length-2 : tie.Need-same-length-2
-same-length-2 c = search needs
+same-length-2 c = c .before .before .play .kept .1 .1 .0
 
 returns-2 : tie.Need-returns-2
 returns-2 c =
-    let t = c .before .before in
-    let a = t .before .before .before .before .before .before .before .before .args in
-    let form = t .before .before .before .before .form .given in
-    let count = form .0 .1 .0 in
-    let e : 8 + count - 8 ≡ count = omega arith in (
-      t .play .ensures .0,
-      t .play .ensures .1
-          ∙ (ap (λ (n : ℕ). played (form .0 .0) (take n (drop 8 (a .numbers .now)))) e
-          ∙ ap (λ (f : Form). playedForm (recorded f (a .numbers .now))) (sym (form .1))),
-    )
+    let k = c .before .before .before .before .before in
+    let a = k .before .before .before .before .before .args in
+    let ran = c .before .before .play .ensures in
+    (ran .0, ran .1 ∙ form-played (a .numbers .now) (k .before .form .given .1))
 
 pub play-form-spec : {M : Type 1} → statement M
 play-form-spec =

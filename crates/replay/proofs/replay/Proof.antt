@@ -1,19 +1,13 @@
 -- `replay::replay` meets its contract: the file's form, then what it says. Assumes nothing.
 use native.Mathlib.Omega.{arith}
-use mathlib.Core.Path.{sym, _∙_, ap}
-use mathlib.Core.Option.{Option}
-use lib.ListN.{length}
-use Rattle.trace_file.specs.Form.{Recorded}
-use Rattle.replay.specs.Replay.{playedForm}
+use mathlib.Core.Path.{_∙_}
 use Rattle.replay.proofs.Judging.{page-short, page-long}
 use borrow.Author.Needs.{needs}
 use Rattle.replay.proofs.replay.Statement.{statement}
 use Rattle.replay.proofs.replay.Tie as tie
 
 returns : tie.Need-returns
-returns c =
-    let a = c .before .before .before .args in
-    (omega arith, page-short (a .text .now) (length (a .page .now)) (c .if1 .taken))
+returns c = (omega arith, page-short (c .before .before .before .args .text .now) (c .if1 .taken))
 
 number-buffer-requires : tie.Need-number-buffer-requires
 number-buffer-requires c κs = search needs
@@ -31,17 +25,17 @@ play-form-requires : tie.Need-play-form-requires
 play-form-requires c κs = search needs
 
 same-length : tie.Need-same-length
-same-length c = search needs
+same-length c = c .before .before .play-form .kept .1 .1 .0
 
 returns-2 : tie.Need-returns-2
 returns-2 c =
-    let t = c .before .before in
-    let form = t .before .before .before .before in
-    let a = form .before .before .before .before .before .before .args in (
-      omega (arith, t .play-form .ensures .0, t .play-form .kept .1 .1 .0),
-      t .play-form .ensures .1
-          ∙ (ap (λ (o : Option Recorded). playedForm o) (form .parse .ensures .0)
-          ∙ page-long (a .text .now) (length (a .page .now)) _ (form .before .before .before .if1 .left) (omega (arith, form .before .before .number-buffer .ensures))),
+    let printed = c .before .before .play-form in
+    let t = c .before .before .before .before .before .before in
+    let p = t .before .before .before in
+    let a = p .before .before .before .args in
+    let wide = t .before .before .number-buffer .ensures in (
+      omega (arith, printed .ensures .0, printed .kept .1 .1 .0),
+      printed .ensures .1 ∙ page-long (a .text .now) (p .if1 .left) (omega (arith, wide)) (t .parse .ensures .0),
     )
 
 pub replay-spec : {M : Type 1} → statement M

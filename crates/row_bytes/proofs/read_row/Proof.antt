@@ -1,56 +1,34 @@
--- `row_bytes::read_row` meets its contract: the row is pasted over the whole buffer. Assumes nothing.
-use Prim.Native.Nat.{ℕ, _+_, _-_, _*_}
-use mathlib.Core.Path.{_≡_, ap, _∙_}
+-- `row_bytes::read_row` meets its contract: the row is written over the whole buffer. Assumes nothing.
 use native.Mathlib.Omega.{arith}
-use lib.ListN.{length, take, drop, length-drop}
-use lib.Seq.{paste, take-take, length-take-le}
+use mathlib.Core.Path.{_≡_, sym, ap, _∙_}
+use lib.ListN.{length}
 use borrow.Author.Needs.{needs}
-use Rattle.row_bytes.specs.Bytes.{rowBytes}
-use Rattle.row_bytes.proofs.Pastes.{paste-whole}
+use Rattle.block_copy.proofs.Pastes.{paste-over}
+use Rattle.row_layout.proofs.Laws.{length-row}
 use Rattle.row_bytes.proofs.read_row.Statement.{statement}
 use Rattle.row_bytes.proofs.read_row.Tie as tie
 
-mul-start : tie.Need-mul-start
-mul-start c = search needs
+row-part-requires : tie.Need-row-part-requires
+row-part-requires c κs = omega arith
 
-add-end : tie.Need-add-end
-add-end c = search needs
-
-sub-put-bytes : tie.Need-sub-put-bytes
-sub-put-bytes c = search needs
-
-part-put-bytes-start : tie.Need-part-put-bytes-start
-part-put-bytes-start c = search needs
-
-part-put-bytes-end : tie.Need-part-put-bytes-end
-part-put-bytes-end c = search needs
+-- the part is as long as the buffer
+module _ (p : tie.After-row-part) where
+  fits : length (p .before .before .before .args .buffer .now) ≡ length (p .row-part .result .now)
+  fits =
+      let a = p .before .before .before .args in
+      let pre = p .before .before .before .pre in
+      pre .0 ∙ sym (ap length (p .row-part .ensures) ∙ length-row (a .w) (a .store .now) (a .place .0) (pre .1))
 
 put-bytes-requires : tie.Need-put-bytes-requires
-put-bytes-requires c κs = search needs
+put-bytes-requires c κs = omega (arith, fits (c .before))
 
 same-length : tie.Need-same-length
 same-length c = search needs
 
 returns : tie.Need-returns
-unfolding rowBytes
 returns c =
-    let a = c .before .before .before .before .before .before .before .args in
-    let start = a .p * a .w in
-    let row = drop start (a .store .now) in
-    let n = start + a .w - start in
-    let long : length (take n row) ≡ a .w = length-take-le n row (omega (arith, length-drop start (a .store .now))) ∙ omega arith in
-    c .before .before .put-bytes .ensures ∙ ap (λ (k : ℕ). paste (a .buffer .now) 0 (take n row) k) long
-    ∙ paste-whole (a .buffer .now) (take n row) (a .w) (search needs) ∙ take-take (a .w) n row (omega arith)
+    let p = c .before .before .before .before in
+    c .before .before .put-bytes .ensures ∙ paste-over _ _ (fits p) ∙ p .row-part .ensures
 
 pub read-row-spec : {M : Type 1} → statement M
-read-row-spec =
-    tie.close
-    (tie.spec
-    mul-start
-    add-end
-    sub-put-bytes
-    part-put-bytes-start
-    part-put-bytes-end
-    put-bytes-requires
-    same-length
-    returns)
+read-row-spec = tie.close (tie.spec row-part-requires put-bytes-requires same-length returns)

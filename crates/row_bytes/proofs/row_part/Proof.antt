@@ -4,7 +4,7 @@ use mathlib.Core.Path.{_≡_, ap}
 use native.Mathlib.Omega.{arith}
 use lib.ListN.{take, drop}
 use borrow.Author.Needs.{needs}
-use Rattle.row_bytes.specs.Bytes.{rowBytes}
+use Rattle.row_layout.specs.Bytes.{rowBytes}
 use Rattle.row_bytes.proofs.row_part.Statement.{statement}
 use Rattle.row_bytes.proofs.row_part.Tie as tie
 
@@ -27,7 +27,7 @@ returns : tie.Need-returns
 unfolding rowBytes
 returns c =
     let a = c .before .args in
-    let start = a .p * a .w in
+    let start = a .place .0 * a .w in
     let e : start + a .w - start ≡ a .w = omega arith in
     ap (λ (k : ℕ). take k (drop start (a .store .now))) e
 

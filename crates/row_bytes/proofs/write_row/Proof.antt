@@ -1,9 +1,10 @@
--- `row_bytes::write_row` meets its contract: what is pasted into the row's part is pasted into the store. Assumes nothing.
+-- `row_bytes::write_row` meets its contract: what is pasted into the row's part is pasted into the store.
+-- Assumes nothing.
 use Prim.Native.Nat.{_+_, _*_}
 use lib.ListN.{length}
 use borrow.Author.Needs.{needs}
-use Rattle.row_bytes.specs.Bytes.{written}
-use Rattle.row_bytes.proofs.Pastes.{paste-part}
+use Rattle.row_layout.specs.Bytes.{written}
+use Rattle.block_copy.proofs.Pastes.{paste-part}
 use Rattle.row_bytes.proofs.write_row.Statement.{statement}
 use Rattle.row_bytes.proofs.write_row.Tie as tie
 
@@ -32,7 +33,7 @@ returns : tie.Need-returns
 unfolding written
 returns c =
     let a = c .before .before .before .before .before .before .args in
-    let start = a .p * a .w in
+    let start = a .place .0 * a .w in
     paste-part (a .store .now) start (start + a .w) (a .column) (a .bytes .now) (length (a .bytes .now))
     (search needs) (search needs) (c .before .before .put-bytes .ensures)
 

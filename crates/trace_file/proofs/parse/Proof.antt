@@ -3,8 +3,8 @@
 use native.Mathlib.Omega.{arith}
 use mathlib.Core.Path.{sym, ap, _∙_}
 use lib.ListN.{length, take}
-use Rattle.trace_file.specs.declared.Numbers.{Numbers}
-use Rattle.trace_file.specs.Numbers.{listed}
+use Rattle.number_text.specs.declared.Numbers.{Numbers}
+use Rattle.number_text.specs.Numbers.{listed}
 use Rattle.trace_file.proofs.Sections.{no-room, too-long, none-read, some-read}
 use borrow.Author.Needs.{needs}
 use Rattle.trace_file.proofs.parse.Statement.{statement}

@@ -1,54 +1,74 @@
--- `cases::bench::read`: each part lent is as long as it says, since `sized` bounds it. Assumes nothing.
-use mathlib.Core.Path.{sym}
+-- `cases::bench::read`: each part lent is as long as it says. Assumes nothing.
 use borrow.Author.Needs.{needs}
-use lib.Seq.{length-take-le}
+use Rattle.cases.proofs.Lent.{lent-fits, lent-long}
 use Rattle.cases.proofs.bench.read.Statement.{statement}
 use Rattle.cases.proofs.bench.read.Tie as tie
 
 sized-requires : tie.Need-sized-requires
 sized-requires c κs = search needs
 
+element-copy-out-b : tie.Need-element-copy-out-b
+element-copy-out-b c = search needs
+
+element-copy-out-n : tie.Need-element-copy-out-n
+element-copy-out-n c = search needs
+
+element-copy-out-f : tie.Need-element-copy-out-f
+element-copy-out-f c = search needs
+
+element-copy-out-r : tie.Need-element-copy-out-r
+element-copy-out-r c = search needs
+
+element-copy-out-k : tie.Need-element-copy-out-k
+element-copy-out-k c = search needs
+
+element-copy-out-c : tie.Need-element-copy-out-c
+element-copy-out-c c = search needs
+
 array-borrow-prefix-buffer : tie.Need-array-borrow-prefix-buffer
-array-borrow-prefix-buffer c = search needs
+array-borrow-prefix-buffer c = lent-fits _ _ (search needs)
 
 slice-aggregate-read : tie.Need-slice-aggregate-read
-slice-aggregate-read c = sym (length-take-le _ _ (search needs))
+slice-aggregate-read c = lent-long _ _ (search needs)
 
 array-borrow-prefix-store : tie.Need-array-borrow-prefix-store
-array-borrow-prefix-store c = search needs
+array-borrow-prefix-store c = lent-fits _ _ (search needs)
 
 slice-aggregate-read-2 : tie.Need-slice-aggregate-read-2
-slice-aggregate-read-2 c = sym (length-take-le _ _ (search needs))
+slice-aggregate-read-2 c = lent-long _ _ (search needs)
 
 array-borrow-prefix-forward : tie.Need-array-borrow-prefix-forward
-array-borrow-prefix-forward c = search needs
+array-borrow-prefix-forward c = lent-fits _ _ (search needs)
 
 slice-aggregate-read-3 : tie.Need-slice-aggregate-read-3
-slice-aggregate-read-3 c = sym (length-take-le _ _ (search needs))
+slice-aggregate-read-3 c = lent-long _ _ (search needs)
 
 array-borrow-prefix-reverse : tie.Need-array-borrow-prefix-reverse
-array-borrow-prefix-reverse c = search needs
+array-borrow-prefix-reverse c = lent-fits _ _ (search needs)
 
 slice-aggregate-read-4 : tie.Need-slice-aggregate-read-4
-slice-aggregate-read-4 c = sym (length-take-le _ _ (search needs))
+slice-aggregate-read-4 c = lent-long _ _ (search needs)
 
 array-borrow-prefix-rows : tie.Need-array-borrow-prefix-rows
-array-borrow-prefix-rows c = search needs
+array-borrow-prefix-rows c = lent-fits _ _ (search needs)
 
 slice-aggregate-read-5 : tie.Need-slice-aggregate-read-5
-slice-aggregate-read-5 c = sym (length-take-le _ _ (search needs))
+slice-aggregate-read-5 c = lent-long _ _ (search needs)
 
 array-borrow-prefix-counts : tie.Need-array-borrow-prefix-counts
-array-borrow-prefix-counts c = search needs
+array-borrow-prefix-counts c = lent-fits _ _ (search needs)
 
 slice-aggregate-read-6 : tie.Need-slice-aggregate-read-6
-slice-aggregate-read-6 c = sym (length-take-le _ _ (search needs))
+slice-aggregate-read-6 c = lent-long _ _ (search needs)
 
 read-requires : tie.Need-read-requires
 read-requires c κs = search needs
 
-answer-of-requires : tie.Need-answer-of-requires
-answer-of-requires c κs = search needs
+numbers-of-requires : tie.Need-numbers-of-requires
+numbers-of-requires c κs = search needs
+
+placed-requires : tie.Need-placed-requires
+placed-requires c κs = search needs
 
 returns : tie.Need-returns
 returns c = search needs
@@ -58,6 +78,12 @@ read-spec =
     tie.close
     (tie.spec
     sized-requires
+    element-copy-out-b
+    element-copy-out-n
+    element-copy-out-f
+    element-copy-out-r
+    element-copy-out-k
+    element-copy-out-c
     array-borrow-prefix-buffer
     slice-aggregate-read
     array-borrow-prefix-store
@@ -71,5 +97,6 @@ read-spec =
     array-borrow-prefix-counts
     slice-aggregate-read-6
     read-requires
-    answer-of-requires
+    numbers-of-requires
+    placed-requires
     returns)

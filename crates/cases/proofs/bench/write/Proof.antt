@@ -1,60 +1,74 @@
--- `cases::bench::write`: each part lent is as long as it says, since `sized` bounds it. Assumes nothing.
-use mathlib.Core.Path.{sym}
+-- `cases::bench::write`: each part lent is as long as it says. Assumes nothing.
 use borrow.Author.Needs.{needs}
-use lib.Seq.{length-take-le}
+use Rattle.cases.proofs.Lent.{lent-fits, lent-long}
 use Rattle.cases.proofs.bench.write.Statement.{statement}
 use Rattle.cases.proofs.bench.write.Tie as tie
-
-buffer-of-requires : tie.Need-buffer-of-requires
-buffer-of-requires c κs = search needs
-
-within-requires : tie.Need-within-requires
-within-requires c κs = search needs
 
 sized-requires : tie.Need-sized-requires
 sized-requires c κs = search needs
 
+element-copy-out-b : tie.Need-element-copy-out-b
+element-copy-out-b c = search needs
+
+element-copy-out-n : tie.Need-element-copy-out-n
+element-copy-out-n c = search needs
+
+element-copy-out-f : tie.Need-element-copy-out-f
+element-copy-out-f c = search needs
+
+element-copy-out-r : tie.Need-element-copy-out-r
+element-copy-out-r c = search needs
+
+element-copy-out-k : tie.Need-element-copy-out-k
+element-copy-out-k c = search needs
+
+element-copy-out-c : tie.Need-element-copy-out-c
+element-copy-out-c c = search needs
+
 array-share-prefix-bytes : tie.Need-array-share-prefix-bytes
-array-share-prefix-bytes c = search needs
+array-share-prefix-bytes c = lent-fits _ _ (search needs)
 
 slice-aggregate-write : tie.Need-slice-aggregate-write
-slice-aggregate-write c = sym (length-take-le _ _ (search needs))
+slice-aggregate-write c = lent-long _ _ (search needs)
 
 array-borrow-prefix-store : tie.Need-array-borrow-prefix-store
-array-borrow-prefix-store c = search needs
+array-borrow-prefix-store c = lent-fits _ _ (search needs)
 
 slice-aggregate-write-2 : tie.Need-slice-aggregate-write-2
-slice-aggregate-write-2 c = sym (length-take-le _ _ (search needs))
+slice-aggregate-write-2 c = lent-long _ _ (search needs)
 
 array-borrow-prefix-forward : tie.Need-array-borrow-prefix-forward
-array-borrow-prefix-forward c = search needs
+array-borrow-prefix-forward c = lent-fits _ _ (search needs)
 
 slice-aggregate-write-3 : tie.Need-slice-aggregate-write-3
-slice-aggregate-write-3 c = sym (length-take-le _ _ (search needs))
+slice-aggregate-write-3 c = lent-long _ _ (search needs)
 
 array-borrow-prefix-reverse : tie.Need-array-borrow-prefix-reverse
-array-borrow-prefix-reverse c = search needs
+array-borrow-prefix-reverse c = lent-fits _ _ (search needs)
 
 slice-aggregate-write-4 : tie.Need-slice-aggregate-write-4
-slice-aggregate-write-4 c = sym (length-take-le _ _ (search needs))
+slice-aggregate-write-4 c = lent-long _ _ (search needs)
 
 array-borrow-prefix-rows : tie.Need-array-borrow-prefix-rows
-array-borrow-prefix-rows c = search needs
+array-borrow-prefix-rows c = lent-fits _ _ (search needs)
 
 slice-aggregate-write-5 : tie.Need-slice-aggregate-write-5
-slice-aggregate-write-5 c = sym (length-take-le _ _ (search needs))
+slice-aggregate-write-5 c = lent-long _ _ (search needs)
 
 array-borrow-prefix-counts : tie.Need-array-borrow-prefix-counts
-array-borrow-prefix-counts c = search needs
+array-borrow-prefix-counts c = lent-fits _ _ (search needs)
 
 slice-aggregate-write-6 : tie.Need-slice-aggregate-write-6
-slice-aggregate-write-6 c = sym (length-take-le _ _ (search needs))
+slice-aggregate-write-6 c = lent-long _ _ (search needs)
 
 write-requires : tie.Need-write-requires
 write-requires c κs = search needs
 
-answer-of-requires : tie.Need-answer-of-requires
-answer-of-requires c κs = search needs
+numbers-of-requires : tie.Need-numbers-of-requires
+numbers-of-requires c κs = search needs
+
+placed-requires : tie.Need-placed-requires
+placed-requires c κs = search needs
 
 returns : tie.Need-returns
 returns c = search needs
@@ -63,9 +77,13 @@ pub write-spec : {M : Type 1} → statement M
 write-spec =
     tie.close
     (tie.spec
-    buffer-of-requires
-    within-requires
     sized-requires
+    element-copy-out-b
+    element-copy-out-n
+    element-copy-out-f
+    element-copy-out-r
+    element-copy-out-k
+    element-copy-out-c
     array-share-prefix-bytes
     slice-aggregate-write
     array-borrow-prefix-store
@@ -79,5 +97,6 @@ write-spec =
     array-borrow-prefix-counts
     slice-aggregate-write-6
     write-requires
-    answer-of-requires
+    numbers-of-requires
+    placed-requires
     returns)

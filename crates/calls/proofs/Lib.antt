@@ -1,4 +1,0 @@
-pub mod Settles
-pub mod Decides
-pub mod Serves
-pub mod Passes

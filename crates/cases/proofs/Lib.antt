@@ -1,0 +1,2 @@
+-- The root of the proofs of `cases`.
+mod Lent

@@ -1,0 +1,50 @@
+-- `cases::expect::changed_part`: the part stays at or below 7. Assumes nothing.
+use Prim.Native.Nat.{_≤_, _-_}
+use borrow.Author.Needs.{needs}
+use Rattle.cases.proofs.expect.changed_part.Statement.{statement}
+use Rattle.cases.proofs.expect.changed_part.Tie as tie
+
+abbrev Inv-loop : tie.InvT-loop
+Inv-loop all c part₀ part = part ≤ 7
+
+abbrev μ-loop : tie.MeasureT-loop
+μ-loop all c part₀ part = 7 - part
+
+loop-holds : tie.Need-loop-holds Inv-loop μ-loop
+loop-holds c = search needs
+
+difference-requires : tie.Need-difference-requires Inv-loop μ-loop
+difference-requires c κs = search needs
+
+element-copy-out-if1 : tie.Need-element-copy-out-if1 Inv-loop μ-loop
+element-copy-out-if1 c = search needs
+
+returns : tie.Need-returns Inv-loop μ-loop
+returns c = search needs
+
+add-part : tie.Need-add-part Inv-loop μ-loop
+add-part c = search needs
+
+loop-less : tie.Need-loop-less Inv-loop μ-loop
+loop-less c = search needs
+
+loop-again : tie.Need-loop-again Inv-loop μ-loop
+loop-again c = search needs
+
+returns-2 : tie.Need-returns-2 Inv-loop μ-loop
+returns-2 c = search needs
+
+pub changed-part-spec : {M : Type 1} → statement M
+changed-part-spec =
+    tie.close
+    (tie.spec
+    Inv-loop
+    μ-loop
+    loop-holds
+    difference-requires
+    element-copy-out-if1
+    returns
+    add-part
+    loop-less
+    loop-again
+    returns-2)

@@ -1,0 +1,178 @@
+// What an expectation of the script asks of the last call: its answer, and the memory that it left.
+use crate::bench;
+use crate::memory;
+use crate::memory::Memory;
+use crate::report;
+use crate::report::Case;
+use crate::script;
+use crate::script::Numbers;
+
+pub fn narrow(x: u64) -> u32 {
+    (x % 4294967296) as u32
+}
+
+// The first element of a part that is not the number for it, of so many; 256 where there is none.
+pub fn other_number(numbers: &Numbers, m: Memory, part: usize, from: usize, count: usize) -> usize {
+    let mut i: usize = 0;
+    while i < count {
+        let at = std::num::wrapping_add_usize(from, i) % 512;
+        if memory::element(m, part, i) != numbers[at] {
+            return i;
+        }
+        i += 1;
+    }
+    256
+}
+
+// The first of an answer's figures that is not as expected; 5 where there is none.
+pub fn other_figure(a: [u64; 5], b: [u64; 5]) -> usize {
+    let mut i: usize = 0;
+    while i < 5 {
+        if a[i] != b[i] {
+            return i;
+        }
+        i += 1;
+    }
+    i
+}
+
+// The first part of the memory that the call changed, of all or of those that no line has spoken of; 7 where there is none.
+pub fn changed_part(c: Case, all: bool) -> usize {
+    let mut part: usize = 0;
+    while part < 7 {
+        let i = memory::difference(c.now, c.before, part, 0);
+        if (i < 256) & (all | !c.said[part]) {
+            return part;
+        }
+        part += 1;
+    }
+    part
+}
+
+// Case: the answer whole.
+pub fn check_answer(c: Case, expected: [u64; 5]) -> Case {
+    let found = c.answer;
+    let i = other_figure(found, expected);
+    if i < 5 {
+        return report::wrong_answer(c, i, expected[i], found[i]);
+    }
+    report::right(c)
+}
+
+// The length of inspect's part, where the last call is an inspect.
+pub fn part_length(c: Case) -> u64 {
+    if c.called == script::INSPECT {
+        c.now.settings.w as u64
+    } else {
+        0
+    }
+}
+
+// Case: the last call is accepted.
+pub fn accept(c: Case) -> Case {
+    let a = c.answer;
+    check_answer(c, [0, a[1], a[2], a[3], part_length(c)])
+}
+
+// `accepted`: with this place, slot moved to and row sent home, where they are told.
+pub fn accepted(numbers: &Numbers, c: Case, count: usize) -> Case {
+    if count == 0 {
+        return accept(c);
+    }
+    check_answer(c, [0, numbers[0], numbers[1], numbers[2], part_length(c)])
+}
+
+// Case: the memory is as it was before the call, all of it or what no line has spoken of.
+pub fn kept(c: Case, all: bool) -> Case {
+    let part = changed_part(c, all);
+    if part == 7 {
+        return report::right(c);
+    }
+    let i = memory::difference(c.now, c.before, part, 0);
+    report::wrong_part(
+        c,
+        part,
+        i,
+        memory::element(c.before, part, i),
+        memory::element(c.now, part, i),
+    )
+}
+
+// Case: the last call is refused. Beside the number the answer holds nothing, and the memory is as it was.
+pub fn refused(c: Case, number: u64) -> Case {
+    let expected = [number, 0, 65535, 65535, 0];
+    let found = c.answer;
+    if other_figure(found, expected) < 5 {
+        return check_answer(c, expected);
+    }
+    kept(c, true)
+}
+
+// Case: inspect shows the numbers.
+pub fn shown_is(numbers: &Numbers, c: Case, count: usize) -> Case {
+    if c.answer[4] != (count as u64) {
+        return report::wrong_answer(c, 4, count as u64, c.answer[4]);
+    }
+    let i = other_number(numbers, c.now, memory::BYTES, 0, count);
+    if i < 256 {
+        return report::wrong_part(
+            c,
+            memory::BYTES,
+            i,
+            numbers[i],
+            memory::element(c.now, memory::BYTES, i),
+        );
+    }
+    report::right(c)
+}
+
+// Case: a part holds the numbers, and what lies behind it is as it was before the call.
+pub fn part_is(numbers: &Numbers, c: Case, part: usize, count: usize) -> Case {
+    let mut d = c;
+    d.said[part % 8] = true;
+    let i = other_number(numbers, c.now, part, 0, count);
+    if i < 256 {
+        return report::wrong_part(d, part, i, numbers[i], memory::element(c.now, part, i));
+    }
+    let j = memory::difference(c.now, c.before, part, count);
+    if j < 256 {
+        return report::wrong_part(
+            d,
+            part,
+            j,
+            memory::element(c.before, part, j),
+            memory::element(c.now, part, j),
+        );
+    }
+    report::right(d)
+}
+
+// The first number, from one on, that inspect does not show of a row; 512 where there is none.
+pub fn hidden_number(numbers: &Numbers, m: Memory, row: u64, from: usize, w: usize) -> usize {
+    let step = bench::call(m, script::INSPECT, narrow(row), 0);
+    let i = other_number(numbers, step.memory, memory::BYTES, from, w);
+    if (i < 256) | (step.answer[0] != 0) {
+        return std::num::wrapping_add_usize(from, i % 256);
+    }
+    512
+}
+
+// Case: the bytes of visible rows 0 to N - 1, as inspect shows them, are the numbers.
+pub fn visible_is(numbers: &Numbers, c: Case, count: usize) -> Case {
+    let w = memory::cut(c.now.settings.w as u64);
+    let n = memory::cut(c.now.settings.n as u64);
+    let mut row: usize = 0;
+    let mut from: usize = 0;
+    while row < n {
+        let at = hidden_number(numbers, c.now, row as u64, from, w);
+        if at < count {
+            return report::wrong_part(c, memory::BYTES, at, numbers[at % 512], row as u64);
+        }
+        from = std::num::wrapping_add_usize(from, w);
+        row += 1;
+    }
+    if (from != count) | (256 < c.now.settings.n) {
+        return report::refuse(c, b"another number of values than N rows have");
+    }
+    report::right(c)
+}

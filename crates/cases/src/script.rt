@@ -1,0 +1,283 @@
+// One line of the script, read byte by byte: a verb, a second word or none, and numbers. A number is decimal, or `-` for
+// 65535, and with `*` and how often it stands there: 0*130. What is none of the words below is refused.
+
+pub type Numbers = [u64; 512];
+
+// The verbs, by their places in `NAMES`. The first eight are the parts of a memory.
+pub const SET_UP: usize = 8;
+
+pub const TICK: usize = 9;
+
+pub const INSPECT: usize = 10;
+
+pub const READ: usize = 11;
+
+pub const WRITE: usize = 12;
+
+pub const SPAN: usize = 13;
+
+pub const SIZE: usize = 14;
+
+pub const SETTINGS: usize = 16;
+
+pub const LEND: usize = 17;
+
+pub const UNDO: usize = 18;
+
+pub const ACCEPTED: usize = 19;
+
+pub const REFUSED: usize = 20;
+
+pub const REST: usize = 21;
+
+pub const FROM: usize = 22;
+
+pub const ORDER: usize = 23;
+
+pub const GROUP: usize = 24;
+
+pub const VISIBLE: usize = 25;
+
+// Second words, and none.
+pub const IS: usize = 26;
+
+pub const KEPT: usize = 27;
+
+pub const NONE: usize = 28;
+
+// How far a line is read.
+pub struct Scan {
+    pub verb: usize,
+    pub word: usize,
+    // how many numbers there are so far
+    pub count: usize,
+    // the item that is read: its value as a number, its last eight bytes, and whether each of its bytes is a digit
+    pub value: u64,
+    pub packed: u64,
+    pub digits: bool,
+    // it is how often another number stands there, and that number
+    pub times: bool,
+    pub repeated: u64,
+    // where the verb ends in the script
+    pub end: usize,
+    // the rest of the line is not read
+    pub comment: bool,
+    // the line is understood so far
+    pub good: bool,
+}
+
+impl Scan {
+    pub const START: Scan = Scan {
+        verb: 28,
+        word: 28,
+        count: 0,
+        value: 0,
+        packed: 2314885530818453536,
+        digits: true,
+        times: false,
+        repeated: 0,
+        end: 0,
+        comment: false,
+        good: true,
+    };
+}
+
+// Eight blanks, and seven before a hyphen, as bytes of a number.
+const BLANKS: u64 = 2314885530818453536;
+
+const HYPHEN: u64 = 2314885530818453549;
+
+// A digit of a number is read.
+fn digit(s: Scan, d: u64) -> Scan {
+    let mut t = s;
+    t.value = std::num::wrapping_add_u64((s.value % 1844674407370955162) * 10, d);
+    t.good = s.good & (s.value <= 1844674407370955161) & (s.value <= t.value);
+    t
+}
+
+// The last eight of some bytes and one more, as a number.
+fn pack(bytes: u64, b: u8) -> u64 {
+    (bytes % 72057594037927936) * 256 + (b as u64)
+}
+
+// A byte of an item is read. A word has at most eight.
+fn grow(s: Scan, b: u8) -> Scan {
+    let mut t = s;
+    t.packed = pack(s.packed, b);
+    if (48 <= b) & (b <= 57) & s.digits {
+        return digit(t, (b % 48) as u64);
+    }
+    t.good = s.good & (s.packed / 72057594037927936 == 32);
+    t.digits = false;
+    t
+}
+
+// What was read is to stand there as often as what follows says.
+fn star(s: Scan) -> Scan {
+    let mut t = s;
+    t.good = s.good & !s.times & (s.digits | (s.packed == HYPHEN)) & (s.packed != BLANKS);
+    t.repeated = value_of(s);
+    t.times = true;
+    t.value = 0;
+    t.packed = BLANKS;
+    t.digits = true;
+    t
+}
+
+// The number that was read.
+fn value_of(s: Scan) -> u64 {
+    if s.times {
+        return s.repeated;
+    }
+    if s.packed == HYPHEN {
+        return 65535;
+    }
+    s.value
+}
+
+// The place of a word among names of eight bytes; their number where it is none of them.
+fn place_of(names: &[u8], packed: u64) -> usize {
+    let mut value: u64 = 0;
+    let mut i: usize = 0;
+    while i < names.len() {
+        value = pack(value, names[i]);
+        if (value == packed) & (i % 8 == 7) {
+            return i / 8;
+        }
+        i += 1;
+    }
+    i / 8
+}
+
+// A word ends, before index i of the script.
+fn word(s: Scan, i: usize) -> Scan {
+    let place = place_of(
+        b" control   store forward reverse    rows  counts  buffer    part  set-up    tick inspect    read   write    span    size    most\
+settings    lend    undoaccepted refused    rest    from   order   group visible      is    kept",
+        s.packed,
+    );
+    let mut t = s;
+    t.good = s.good & (place < NONE) & (s.count == 0) & !s.times;
+    t.packed = BLANKS;
+    t.digits = true;
+    t.value = 0;
+    if s.verb == NONE {
+        t.verb = place;
+        t.end = i;
+        t.comment = place == GROUP;
+        return t;
+    }
+    t.good = t.good & (s.word == NONE);
+    t.word = place;
+    t
+}
+
+// The largest number that a verb takes as its number i.
+fn largest(verb: usize, i: usize) -> u64 {
+    if (verb == WRITE) & (2 <= i) {
+        return 255;
+    }
+    if (verb == WRITE) & (i == 1) {
+        return 18446744073709551615;
+    }
+    match verb {
+        1 | 6 | 7 | 25 => 255,
+        2 | 3 | 4 => 65535,
+        13 | 14 | 15 => 18446744073709551615,
+        17 => 256,
+        _ => 4294967295,
+    }
+}
+
+// How many numbers a verb takes.
+fn takes(verb: usize, count: usize) -> bool {
+    match verb {
+        0 | 15 => count == 4,
+        8 | 9 | 18 | 21 | 23 | 24 => count == 0,
+        10 | 20 => count == 1,
+        11 | 13 | 22 => (count == 1) | (count == 2),
+        12 => 2 <= count,
+        14 | 17 => count == 5,
+        16 => count == 6,
+        19 => (count == 0) | (count == 3),
+        _ => true,
+    }
+}
+
+// Puts a value into the numbers of the line, from one place to before another.
+fn put(numbers: &mut Numbers, from: usize, to: usize, value: u64) {
+    let mut i = from;
+    while i < to {
+        numbers[i % 512] = value;
+        i += 1;
+    }
+}
+
+// How often the number that was read stands there.
+fn times_of(s: Scan) -> u64 {
+    if s.times { s.value } else { 1 }
+}
+
+// A number ends.
+fn number(numbers: &mut Numbers, s: Scan) -> Scan {
+    let value = value_of(s);
+    let n = times_of(s);
+    let to = std::num::wrapping_add_usize(s.count, n as usize);
+    let good = (s.verb != NONE)
+        & (s.digits | (s.packed == HYPHEN))
+        & (1 <= n)
+        & (n <= 512)
+        & (to <= 512);
+    let mut t = s;
+    t.good = s.good & good & (value <= largest(s.verb, s.count));
+    t.count = to;
+    t.value = 0;
+    t.packed = BLANKS;
+    t.digits = true;
+    t.times = false;
+    if t.good {
+        put(numbers, s.count, to, value);
+    }
+    t
+}
+
+// The item that is read ends, if there is one, before index i of the script.
+pub fn end_item(numbers: &mut Numbers, s: Scan, i: usize) -> Scan {
+    if (s.packed == BLANKS) & !s.times {
+        return s;
+    }
+    if s.times | s.digits | (s.packed == HYPHEN) {
+        return number(numbers, s);
+    }
+    word(s, i)
+}
+
+// Byte b of the line is read, at index i of the script. Blanks, tabs and carriage returns stand between items.
+pub fn eat(numbers: &mut Numbers, s: Scan, b: u8, i: usize) -> Scan {
+    if s.comment {
+        return s;
+    }
+    if b == b'*' {
+        return star(s);
+    }
+    let between = (b == 32) | (b == 9) | (b == 13) | (b == b'#');
+    if !between {
+        return grow(s, b);
+    }
+    let mut t = end_item(numbers, s, i);
+    t.comment = t.comment | (b == b'#');
+    t
+}
+
+// The line is understood: its words go together, and there are as many numbers as the verb takes.
+pub fn is_good(s: Scan) -> bool {
+    let part = (s.verb < SET_UP) & (s.word == IS);
+    let bare = (s.word == NONE)
+        & (s.verb != REST)
+        & (s.verb != FROM)
+        & (s.verb != VISIBLE)
+        & (s.verb != 7);
+    let told = ((s.verb == REST) & (s.word == KEPT)) | ((s.verb == VISIBLE) & (s.word == IS));
+    let from = (s.verb == FROM) & (SET_UP <= s.word) & (s.word <= WRITE);
+    s.good & (part | bare | told | from) & (s.verb < IS) & takes(s.verb, s.count)
+}

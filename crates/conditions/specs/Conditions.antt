@@ -1,0 +1,41 @@
+-- Document 01, 'Settings and lent memory' and the first three rows of 'Where each call can stop'.
+-- Assumes nothing.
+use Prim.Native.Nat.{ℕ, _+_, _*_}
+use mathlib.Core.Bool.{Bool, _&&_}
+use lib.Dec.{ltb, eqb}
+use Rattle.geometry.specs.declared.Settings.{Settings}
+use Rattle.geometry.specs.declared.Lengths.{Lengths}
+use Rattle.geometry.specs.Ranges.{inRange}
+
+-- 'A | threshold | 1 to 65,535'
+abbrev pub thresholdInRange : ℕ → Bool
+thresholdInRange a = inRange 1 65535 a
+
+-- the table of settings; its failure is number 1
+unfoldable pub rangesHold : Settings → Bool
+rangesHold S =
+    inRange 1 60000 (S .n)
+    && inRange 2 5500 (S .q)
+    && inRange 1 8192 (S .w)
+    && inRange 1 4096 (S .k)
+    && thresholdInRange (S .a)
+    && inRange 1 1360000 (S .l)
+
+-- 'And L must be less than A × (K + 1).'; its failure is number 2
+unfoldable pub limitHolds : Settings → Bool
+limitHolds S = ltb (S .l) (S .a * (S .k + 1))
+
+-- 'a store of (N + Q) × W bytes'
+unfoldable pub storeHolds : Settings → ℕ → Bool
+storeHolds S bytes = eqb bytes ((S .n + S .q) * S .w)
+
+-- 'a store of (N + Q) × W bytes; a forward table of N 16-bit numbers and a reverse table of Q 16-bit numbers;
+-- tracker rows (K 16-bit numbers) and tracker counts (K 32-bit numbers). Each has exactly that length.';
+-- its failure is number 3
+unfoldable pub lengthsHold : Settings → Lengths → Bool
+lengthsHold S lent =
+    storeHolds S (lent .store)
+    && eqb (lent .forward) (S .n)
+    && eqb (lent .reverse) (S .q)
+    && eqb (lent .rows) (S .k)
+    && eqb (lent .counts) (S .k)

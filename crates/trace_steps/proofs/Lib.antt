@@ -1,0 +1,3 @@
+pub mod Blank
+pub mod Stepping
+pub mod Running

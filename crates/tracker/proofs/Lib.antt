@@ -1,6 +1,0 @@
-pub mod Scans
-pub mod Loops
-pub mod Choices
-pub mod Sums
-pub mod Tracking
-pub mod View

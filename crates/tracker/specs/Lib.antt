@@ -1,3 +1,0 @@
-pub mod Scan
-pub mod Track
-pub mod Choice

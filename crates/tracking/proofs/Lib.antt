@@ -1,0 +1,4 @@
+pub mod Choices
+pub mod Sums
+pub mod Tracking
+pub mod View

@@ -1,0 +1,105 @@
+// Set-up and tick, with the control record by value. Each answers for any settings and lent memory; where it refuses,
+// nothing lent is written.
+ghost use mathlib.Core.Path.{_≡_};
+ghost use Rattle.engine.specs.State.{stateOf};
+ghost use Rattle.engine.specs.Calls.{notedOf, setUp, tick};
+use geometry::Control;
+use geometry::Lengths;
+use geometry::Ring;
+use geometry::Settings;
+
+// The number of a call, and the control record after it.
+pub struct Numbered {
+    pub number: u32,
+    pub control: Control,
+}
+
+// Set-up: returns its number, and makes everything lent but the store as new where it is 0.
+pub fn set_up(
+    control: Control,
+    s: Settings,
+    store: &[u8],
+    forward: &mut [u16],
+    reverse: &mut [u16],
+    rows: &mut [u16],
+    counts: &mut [u32],
+) -> Numbered
+    ensures { λ r.
+        let before = stateOf (now (store .entry)) (now (forward .entry)) (now (reverse .entry))
+        (now (rows .entry)) (now (counts .entry)) control in
+        let after = stateOf (now (store .entry)) (now (forward .exit)) (now (reverse .exit))
+        (now (rows .exit)) (now (counts .exit)) (r .control) in
+        ⌜ notedOf after (r .number) ≡ setUp s before ⌝ }
+{
+    let lent = Lengths {
+        store: store.len(),
+        forward: forward.len(),
+        reverse: reverse.len(),
+        rows: rows.len(),
+        counts: counts.len(),
+    };
+    let unfit = ladder::fit_number(s, lent);
+    if unfit != 0 {
+        return Numbered {
+            number: unfit,
+            control: control,
+        };
+    }
+    geometry::clear_entries(forward);
+    geometry::clear_entries(reverse);
+    tracker::reset(rows, counts);
+    Numbered {
+        number: 0,
+        control: geometry::NEW,
+    }
+}
+
+// Tick: returns its number, and makes the tracker as new where it is 0.
+pub fn tick(
+    control: Control,
+    s: Settings,
+    store: &[u8],
+    forward: &[u16],
+    reverse: &[u16],
+    rows: &mut [u16],
+    counts: &mut [u32],
+) -> Numbered
+    ensures { λ r.
+        let before = stateOf (now (store .entry)) (now (forward .entry)) (now (reverse .entry))
+        (now (rows .entry)) (now (counts .entry)) control in
+        let after = stateOf (now (store .entry)) (now (forward .entry)) (now (reverse .entry))
+        (now (rows .exit)) (now (counts .exit)) (r .control) in
+        ⌜ notedOf after (r .number) ≡ tick s before ⌝ }
+{
+    let ring = Ring {
+        head: control.head,
+        passed: control.passed,
+    };
+    let number = ladder::tick_number(
+        s,
+        ring,
+        control.spill,
+        control.acts,
+        store,
+        forward,
+        reverse,
+        rows,
+        counts,
+    );
+    if number != 0 {
+        return Numbered {
+            number: number,
+            control: control,
+        };
+    }
+    tracker::reset(rows, counts);
+    Numbered {
+        number: 0,
+        control: Control {
+            head: ring.head,
+            passed: 0,
+            spill: 0,
+            acts: 0,
+        },
+    }
+}
