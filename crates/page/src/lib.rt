@@ -10,7 +10,7 @@ pub fn put_bytes(page: &mut [u8], at: usize, bytes: &[u8]) -> usize
     requires { ⌜ at + length (now bytes) ≤ length (now page) ⌝ }
     ensures { λ r. ⌜ Put (now (page .entry)) at (now (bytes .entry)) (now (page .exit)) r ⌝ }
 {
-    block_copy::put_bytes(page, at, bytes);
+    block_put::put_bytes(page, at, bytes);
     at + bytes.len()
 }
 

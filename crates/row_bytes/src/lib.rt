@@ -23,7 +23,7 @@ pub fn read_row(store: &[u8], w: usize, place: PhysicalRow, buffer: &mut [u8])
     ensures { λ _. ⌜ now (buffer .exit) ≡ rowBytes w (now (store .entry)) (place .0) ⌝ }
 {
     let row = row_part(store, w, place);
-    block_copy::put_bytes(buffer, 0, row);
+    block_put::put_bytes(buffer, 0, row);
 }
 
 // Writes bytes into a row from a column on: only the row's part of the store is lent on.
@@ -33,7 +33,7 @@ pub fn write_row(store: &mut [u8], w: usize, place: PhysicalRow, column: usize, 
 {
     let start = (place.0 as usize) * w;
     let end = start + w;
-    block_copy::put_bytes(&mut store[start..end], column, bytes);
+    block_put::put_bytes(&mut store[start..end], column, bytes);
 }
 
 // Copies row `source` to row `target` within the store.

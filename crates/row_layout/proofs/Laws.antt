@@ -9,7 +9,7 @@ use native.Mathlib.Nat.{suc-mul, mul-le-mul-right}
 use lib.ListN.{length, getD, drop, length-drop}
 use lib.Seq.{length-paste, length-take-le, getD-take, getD-drop}
 use Rattle.geometry.proofs.Cases.{lt?}
-use Rattle.block_copy.proofs.Pastes.{paste-in, paste-out}
+use Rattle.block_put.proofs.Pastes.{paste-in, paste-out}
 use Rattle.row_layout.specs.Bytes.{rowBytes, written, copied}
 
 -- the byte of row p at column c

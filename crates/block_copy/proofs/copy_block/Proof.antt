@@ -5,7 +5,7 @@ use native.Mathlib.Omega.{arith}
 use lib.ListN.{take, drop}
 use lib.Seq.{take-take, length-take-le}
 use borrow.Author.Needs.{needs}
-use Rattle.block_copy.proofs.Pastes.{paste-through, paste-alike}
+use Rattle.block_put.proofs.Pastes.{paste-through, paste-alike}
 use Rattle.block_copy.proofs.copy_block.Statement.{statement}
 use Rattle.block_copy.proofs.copy_block.Tie as tie
 

@@ -3,7 +3,7 @@ use Prim.Native.Nat.{_-_}
 use native.Mathlib.Omega.{arith}
 use lib.ListN.{drop}
 use borrow.Author.Needs.{needs}
-use Rattle.block_copy.proofs.Pasting.{Pasting, pasting-none, pasting-copy, pasting-all}
+use Rattle.block_put.proofs.Pasting.{Pasting, pasting-none, pasting-copy, pasting-all}
 use Rattle.block_copy.proofs.copy_within.Statement.{statement}
 use Rattle.block_copy.proofs.copy_within.Tie as tie
 

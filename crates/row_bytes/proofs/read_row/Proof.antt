@@ -3,7 +3,7 @@ use native.Mathlib.Omega.{arith}
 use mathlib.Core.Path.{_≡_, sym, ap, _∙_}
 use lib.ListN.{length}
 use borrow.Author.Needs.{needs}
-use Rattle.block_copy.proofs.Pastes.{paste-over}
+use Rattle.block_put.proofs.Pastes.{paste-over}
 use Rattle.row_layout.proofs.Laws.{length-row}
 use Rattle.row_bytes.proofs.read_row.Statement.{statement}
 use Rattle.row_bytes.proofs.read_row.Tie as tie

@@ -1,12 +1,12 @@
--- `block_copy::put_block` meets its contract: what passes through the block is pasted. Assumes nothing.
+-- `block_put::put_block` meets its contract: what passes through the block is pasted. Assumes nothing.
 use mathlib.Core.Path.{sym}
 use native.Mathlib.Omega.{arith}
 use lib.ListN.{length}
 use lib.Seq.{length-take-le}
 use borrow.Author.Needs.{needs}
-use Rattle.block_copy.proofs.Pastes.{paste-through}
-use Rattle.block_copy.proofs.put_block.Statement.{statement}
-use Rattle.block_copy.proofs.put_block.Tie as tie
+use Rattle.block_put.proofs.Pastes.{paste-through}
+use Rattle.block_put.proofs.put_block.Statement.{statement}
+use Rattle.block_put.proofs.put_block.Tie as tie
 
 block-buffer-requires : tie.Need-block-buffer-requires
 block-buffer-requires c κs = search needs

@@ -1,10 +1,10 @@
--- `block_copy::put_bytes` meets its contract: each turn pastes a block, and the rest comes last. Assumes nothing.
+-- `block_put::put_bytes` meets its contract: each turn pastes a block, and the rest comes last. Assumes nothing.
 use Prim.Native.Nat.{_+_, _-_}
 use lib.ListN.{length}
 use borrow.Author.Needs.{needs}
-use Rattle.block_copy.proofs.Pasting.{Pasting, pasting-none, pasting-part, pasting-all}
-use Rattle.block_copy.proofs.put_bytes.Statement.{statement}
-use Rattle.block_copy.proofs.put_bytes.Tie as tie
+use Rattle.block_put.proofs.Pasting.{Pasting, pasting-none, pasting-part, pasting-all}
+use Rattle.block_put.proofs.put_bytes.Statement.{statement}
+use Rattle.block_put.proofs.put_bytes.Tie as tie
 
 abbrev Inv-loop : tie.InvT-loop
 Inv-loop part₀ column bytes i₀ part i = Pasting part₀ column bytes (length bytes) part i

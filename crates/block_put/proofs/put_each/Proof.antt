@@ -1,11 +1,11 @@
--- `block_copy::put_each` meets its contract: the loop pastes the bytes into the part. Assumes nothing.
+-- `block_put::put_each` meets its contract: the loop pastes the bytes into the part. Assumes nothing.
 use Prim.Native.Nat.{_-_}
 use mathlib.Core.Path.{refl}
 use lib.ListN.{length}
 use borrow.Author.Needs.{needs}
-use Rattle.block_copy.proofs.Pasting.{Pasting, pasting-none, pasting-more, pasting-all}
-use Rattle.block_copy.proofs.put_each.Statement.{statement}
-use Rattle.block_copy.proofs.put_each.Tie as tie
+use Rattle.block_put.proofs.Pasting.{Pasting, pasting-none, pasting-more, pasting-all}
+use Rattle.block_put.proofs.put_each.Statement.{statement}
+use Rattle.block_put.proofs.put_each.Tie as tie
 
 abbrev Inv-loop : tie.InvT-loop
 Inv-loop part₀ column bytes i₀ part i = Pasting part₀ column bytes (length bytes) part i
