@@ -101,4 +101,5 @@ unfoldable pub accessNumber : Settings → State → ℕ → Bool → ℕ
 accessNumber S σ r off =
     tickNumber S σ
     ▹ rowNumber S (σ .reverse) (forwardOf σ r) r off
-    ▹ lateNumber S (ringOf (σ .control)) (trackerAt S σ (place S σ r) .acts) (σ .forward) (σ .reverse) (forwardOf σ r) (moves S σ r)
+    ▹ lateNumber S (ringOf (σ .control)) (trackerAt S σ (place S σ r) .acts)
+    (σ .forward) (σ .reverse) (forwardOf σ r) (moves S σ r)

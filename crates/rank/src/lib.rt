@@ -1,7 +1,8 @@
 // The face of the engine: thin entry functions over a control record that the caller lends, exported to C (see
 // include/aqua.h). They answer for any settings, arguments and lent memory; a refusal leaves everything as it was.
 // What each promises is one definition of crate `figures` (specs/Promises.antt); the theorem about them (crate `served`)
-// supposes these and nothing else. Rattle code may hold the record by value and call the crates `upkeep`, `look` and `access` instead.
+// supposes these and nothing else. Rattle code may hold the record by value and call the crates `upkeep`, `look` and
+// `access` instead.
 ghost use mathlib.Core.Path.{_≡_};
 ghost use Rattle.sizing.specs.declared.SizeTimes.{SizeTimes as SizeTimes-of};
 ghost use Rattle.sizing.specs.declared.RefreshTimes.{RefreshTimes as RefreshTimes-of};

@@ -17,7 +17,8 @@ use Rattle.verdict.specs.declared.Verdict.the-variants.{Stop, Stay, Go}
 
 -- due: the row is to be quarantined; d: the destination; held: the reverse entry of d; up: the rise of `passed`
 unfoldable pub verdictOf : ℕ → Bool → ℕ → ℕ → ℕ → Verdict
-verdictOf number due d held up = cond (eqb number 0) (cond due (Go (slot d) (reverseEntryOf (visible held)) up) Stay) (Stop number)
+verdictOf number due d held up =
+    cond (eqb number 0) (cond due (Go (slot d) (reverseEntryOf (visible held)) up) Stay) (Stop number)
 
 -- of a row with that forward entry, by 9 and the destination's 7
 abbrev pub quarantineVerdict : Settings → Ring → List ℕ → List ℕ → ℕ → Verdict
