@@ -1,9 +1,9 @@
--- The [p] table holds, by one test that antt computes. Assumes nothing.
+-- The table of cases holds, by one test that antt computes. Assumes nothing.
 use mathlib.Core.Path.{refl}
 use Rattle.geometry.specs.Lists.{every}
 use Rattle.sizing.specs.Sums.{leastSize, mostActivations, sizeRangesHold, activationRangesHold}
 use Rattle.number_text.specs.Numbers.{numbersFrom, readableFrom}
-use Rattle.trace_file.specs.Form.{hasSections, traceIn}
+use Rattle.trace_file.specs.Form.{hasSections, traceIn, isEmptyTrace}
 use Rattle.page.specs.Decimal.{decimalWithin}
 use Rattle.line_text.specs.LineText.{lineBytes}
 use Rattle.trace_steps.specs.Steps.{linesFrom}
@@ -14,5 +14,5 @@ use Rattle.computed.proofs.Traced.{traced}
 
 pub all-hold : AllHold
 unfolding holds leastSize mostActivations sizeRangesHold activationRangesHold
-    replayed traceIn readableFrom every numbersFrom hasSections played settingsNumber linesFrom lineBytes decimalWithin traced
+    replayed isEmptyTrace traceIn readableFrom every numbersFrom hasSections played settingsNumber linesFrom lineBytes decimalWithin traced
 all-hold = refl

@@ -1,4 +1,4 @@
--- Document 01: every case marked [p], in one table over the definitions.
+-- Document 01: every case marked [p]; document 02: the cases of its requests. In one table over the definitions.
 -- Assumes nothing.
 use Prim.Native.Nat.{ℕ}
 use Prim.Native.String.{String}
@@ -92,6 +92,22 @@ table =
     ∷ []
     )
 
+-- document 02, Ask 1: 'A file of no bytes, or of blanks and newlines alone .. shall .. print nothing. A file with a first count
+-- and no second section is refused as before.'
+abbrev pub emptyTraces : List Case
+emptyTraces =
+    trace "" []
+    ∷ trace " " []
+    ∷ trace "\n" []
+    ∷ trace " \n\n   \n" []
+    ∷ trace "6" ("trace refused" ∷ [])
+    ∷ trace "6 4 2 1 2 2 5" ("trace refused" ∷ [])
+    ∷ trace "\t" ("trace refused" ∷ [])
+    -- a trace with settings and no steps, as before
+    ∷ trace "6 4 2 1 2 2 5 0" []
+    ∷ trace "6 0 0 0 0 0 0 0" ("0 1 - - -" ∷ [])
+    ∷ []
+
 -- all of them hold
 abbrev pub AllHold : Type 0
-AllHold = every holds table ≡ true
+AllHold = every holds (table ++ emptyTraces) ≡ true

@@ -19,6 +19,10 @@ isDigit b = inRange 48 57 b
 abbrev pub isGap : ℕ → Bool
 isGap b = eqb b 32 || eqb b 10
 
+-- 'no bytes, or .. blanks and newlines alone' (document 02, Ask 1)
+abbrev pub blank : List ℕ → Bool
+blank text = every isGap text
+
 -- a decimal number with one digit more; before the first digit there is none
 abbrev pub appended : Option ℕ → ℕ → ℕ
 appended none b = b - 48

@@ -2,7 +2,7 @@
 ghost use mathlib.Core.Path.{_≡_};
 ghost use Prim.Native.Nat.{_≤_};
 ghost use lib.ListN.{length};
-ghost use Rattle.number_text.specs.Numbers.{numbersWithin, listed, counted};
+ghost use Rattle.number_text.specs.Numbers.{blank, numbersWithin, listed, counted};
 use scanner::Scan;
 
 mod scanner;
@@ -30,4 +30,18 @@ pub fn read_numbers(text: &[u8], list: &mut [u32]) -> Numbers
         return Numbers::Count(last.count);
     }
     Numbers::Unreadable
+}
+
+// Tells whether a text is blank: it has no bytes, or blanks and newlines alone.
+pub fn is_blank(text: &[u8]) -> bool
+    ensures { λ r. ⌜ r ≡ blank (now (text .entry)) ⌝ }
+{
+    let mut i: usize = 0;
+    while i < text.len() {
+        if !scanner::is_gap(text[i]) {
+            return false;
+        }
+        i += 1;
+    }
+    true
 }

@@ -3,7 +3,7 @@ ghost use mathlib.Core.Path.{_≡_};
 ghost use mathlib.Core.Bool.{true, false};
 ghost use Prim.Native.Nat.{_≤_};
 ghost use lib.ListN.{length};
-ghost use Rattle.number_text.specs.Numbers.{isDigit, appended};
+ghost use Rattle.number_text.specs.Numbers.{isDigit, isGap, appended};
 ghost use Rattle.number_text.specs.Scanner.{pending, Past};
 
 // How far a text is read. The numbers that have ended stand in the lent list.
@@ -68,6 +68,13 @@ pub fn end_number(list: &mut [u32], s: Scan) -> Scan
     Scan::REFUSED
 }
 
+// Tells whether a byte separates numbers: a blank or a newline.
+pub fn is_gap(b: u8) -> bool
+    ensures { λ r. ⌜ r ≡ isGap b ⌝ }
+{
+    (b == 32) | (b == 10)
+}
+
 // The byte b is read.
 pub fn eat(list: &mut [u32], s: Scan, b: u8) -> Scan
     requires { ⌜ s .count ≤ length (now list) ⌝ }
@@ -85,7 +92,7 @@ pub fn eat(list: &mut [u32], s: Scan, b: u8) -> Scan
             good: s.good,
         };
     }
-    if (b == 32) | (b == 10) {
+    if is_gap(b) {
         return end_number(list, s);
     }
     Scan::REFUSED

@@ -4,7 +4,7 @@ use native.Mathlib.Nat.{mul-le-mul, add-le-add}
 use native.Mathlib.Omega.{arith}
 use mathlib.Core.Path.{_≡_, refl}
 use mathlib.Core.Logic.{_≢_}
-use mathlib.Core.Bool.{true}
+use mathlib.Core.Bool.{true, false}
 use mathlib.Core.List.{List, []}
 use mathlib.Core.Option.{Option}
 use lib.ListN.{take, drop}
@@ -16,7 +16,7 @@ use Rattle.engine.specs.Ladder.{settingsNumber}
 use Rattle.engine.proofs.Facts.{settings-facts}
 use Rattle.trace_file.specs.declared.Form.{Form}
 use Rattle.trace_file.specs.declared.Form.the-variants.{Refused, Trace}
-use Rattle.trace_file.specs.Form.{Recorded, traceWithin, recorded}
+use Rattle.trace_file.specs.Form.{Recorded, traceWithin, isEmptyTrace, recorded}
 use Rattle.trace_file.proofs.Sections.{enough-room}
 use Rattle.lines.specs.declared.Line.{Line}
 use Rattle.lines.specs.Lines.{bare}
@@ -69,8 +69,17 @@ module _ (text : List ℕ) {room : ℕ} where
   unfolding printedOn
   page-short h = rw (lt-leb pageRoom room h) refl
 
-  -- the page has room for all lines, and the list of numbers for every trace
-  pub page-long : {places : ℕ} {said : Option Recorded} → pageRoom ≤ room → numberRoom ≤ places
-      → said ≡ traceWithin places text → playedForm said ≡ printedOn room text
-  unfolding printedOn replayed
-  page-long {places} h wide e = rw (le-leb pageRoom room h, e, enough-room text places wide) refl
+  module _ (wide : pageRoom ≤ room) where
+    pub page-wide : printedOn room text ≡ replayed text
+    unfolding printedOn
+    page-wide = rw (le-leb pageRoom room wide) refl
+
+    pub page-blank : isEmptyTrace text ≡ true → [] ≡ printedOn room text
+    unfolding replayed
+    page-blank e = rw (page-wide, e) refl
+
+    -- the page has room for all lines, and the list of numbers for every trace
+    pub page-long : {places : ℕ} {said : Option Recorded} → isEmptyTrace text ≡ false → numberRoom ≤ places
+        → said ≡ traceWithin places text → playedForm said ≡ printedOn room text
+    unfolding replayed
+    page-long {places} e long f = rw (page-wide, e, f, enough-room text places long) refl

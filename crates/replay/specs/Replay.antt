@@ -7,7 +7,7 @@ use mathlib.Core.Option.{Option, none, some}
 use lib.Dec.{eqb, leb}
 use Rattle.geometry.specs.declared.Settings.{Settings}
 use Rattle.engine.specs.Ladder.{settingsNumber}
-use Rattle.trace_file.specs.Form.{Recorded, traceIn}
+use Rattle.trace_file.specs.Form.{Recorded, traceIn, isEmptyTrace}
 use Rattle.page.specs.Ascii.{ascii}
 use Rattle.lines.specs.Lines.{bare}
 use Rattle.line_text.specs.LineText.{lineBytes}
@@ -42,9 +42,10 @@ abbrev pub playedForm : Option Recorded → List ℕ
 playedForm none = refusedLine
 playedForm (some trace) = played (trace .settings) (trace .steps)
 
--- what is printed for a file; 'the file's form is judged first'
+-- what is printed for a file; 'the file's form is judged first'. An empty trace 'shall be read as a trace of no steps and
+-- print nothing' (document 02, Ask 1): it has no settings that could be refused
 unfoldable pub replayed : List ℕ → List ℕ
-replayed text = playedForm (traceIn text)
+replayed text = cond (isEmptyTrace text) [] (playedForm (traceIn text))
 
 -- all of it on a page with that room; nothing on a shorter one. What the page has after the bytes printed is left free
 unfoldable pub printedOn : ℕ → List ℕ → List ℕ

@@ -1,4 +1,5 @@
-// A trace file replayed on the engine: from the file's bytes to the bytes printed (document 01, 'Trace program').
+// A trace file replayed on the engine: from the file's bytes to the bytes printed (document 01, 'Trace program'; document
+// 02, Ask 1).
 ghost use mathlib.Core.Path.{_≡_};
 ghost use mathlib.Core.Bool.{true};
 ghost use Prim.Native.Nat.{_+_, _*_, _≤_};
@@ -96,7 +97,7 @@ fn on_new_memory(s: Settings, size: usize, steps: &[u32], page: &mut [u8]) -> us
 }
 
 // Puts the line for a trace that is refused.
-fn put_refused(page: &mut [u8]) -> usize
+pub fn put_refused(page: &mut [u8]) -> usize
     requires { ⌜ length refusedLine ≤ length (now page) ⌝ }
     ensures short { λ r. ⌜ r ≤ length (now (page .entry)) ⌝ }
     ensures printed { λ r. ⌜ take r (now (page .exit)) ≡ refusedLine ⌝ }
@@ -149,6 +150,9 @@ pub fn replay(text: &[u8], page: &mut [u8]) -> usize
     ensures printed { λ r. ⌜ take r (now (page .exit)) ≡ printedOn (length (now (page .entry))) (now (text .entry)) ⌝ }
 {
     if page.len() < PAGE {
+        return 0;
+    }
+    if trace_file::is_empty_trace(text) {
         return 0;
     }
     let mut numbers = number_buffer();

@@ -1,7 +1,12 @@
-// Replays the trace file on standard input, and prints its lines on standard output (document 01, 'Trace program').
+// Replays the trace file on standard input, and prints its lines on standard output (document 01, 'Trace program'; document
+// 02, Ask 1). A program has no exit status of its own: what can't be read or written is said on standard error.
 ghost use mathlib.Core.Path.{_≡_};
-ghost use lib.ListN.{length};
+ghost use Prim.Native.Nat.{_≤_};
+ghost use lib.ListN.{length, take};
+ghost use Rattle.input.specs.Input.{bytesRead};
 ghost use Rattle.replay.specs.Replay.{pageRoom};
+ghost use Rattle.trace.specs.Trace.{printedFor};
+use input::Input;
 use libc::STDIN_FILENO;
 use libc::STDOUT_FILENO;
 
@@ -21,10 +26,32 @@ fn page_buffer() -> [u8; replay::PAGE]
     [0u8; replay::PAGE]
 }
 
+// Prints on the page, and returns how many bytes were printed. Says why where a read failed.
+fn put_lines(got: Input, text: &[u8], page: &mut [u8]) -> usize
+    requires { ⌜ (bytesRead got ≤ length (now text)) × (pageRoom ≤ length (now page)) ⌝ }
+    ensures short { λ r. ⌜ r ≤ length (now (page .exit)) ⌝ }
+    ensures printed { λ r. ⌜ take r (now (page .exit)) ≡ printedFor got (now (text .entry)) ⌝ }
+{
+    match got {
+        Input::Failed => {
+            os::fail(b"trace: standard input");
+            replay::put_refused(page)
+        }
+        Input::Read(count) => replay::replay(&text[..count], page),
+    }
+}
+
+// Writes the page out. Says why where a write failed.
+fn write_out(page: &[u8]) {
+    if !io::write_all(STDOUT_FILENO, page) {
+        os::fail(b"trace: standard output");
+    }
+}
+
 fn main() {
     let mut text = text_buffer();
-    let count = io::read_full(STDIN_FILENO, &mut text);
+    let got = input::read_all(STDIN_FILENO, &mut text);
     let mut page = page_buffer();
-    let printed = replay::replay(&text[..count], &mut page);
-    io::write_all(STDOUT_FILENO, &page[..printed]);
+    let printed = put_lines(got, &text, &mut page);
+    write_out(&page[..printed]);
 }

@@ -16,7 +16,7 @@ use Rattle.number_text.specs.Numbers.{numbers, readable, numbersWithin}
 use Rattle.trace_file.specs.Form.{hasSections, settingsOf, sections, traceIn, traceWithin}
 
 -- not as many numbers as the second count says
-not-counted : (xs : List ℕ) → (length xs ≡ 8 + getD xs 7 0 → ⊥) → sections xs ≡ none
+pub not-counted : (xs : List ℕ) → (length xs ≡ 8 + getD xs 7 0 → ⊥) → sections xs ≡ none
 unfolding hasSections
 not-counted xs n = rw (ne-eqb (length xs) (8 + getD xs 7 0) n, and-false (eqb (getD xs 0 0) 6 && leb (getD xs 7 0) 4096))
 

@@ -1,4 +1,4 @@
--- Document 01, 'Trace program': the form of a trace file.
+-- Document 01, 'Trace program': the form of a trace file. Document 02, Ask 1: the empty trace, which has no form.
 -- Assumes nothing.
 use Prim.Native.Nat.{ℕ, _+_}
 use mathlib.Core.Bool.{Bool, cond, _&&_}
@@ -9,7 +9,7 @@ use lib.ListN.{length, getD, take, drop}
 use Rattle.geometry.specs.declared.Settings.{Settings}
 use Rattle.trace_file.specs.declared.Form.{Form}
 use Rattle.trace_file.specs.declared.Form.the-variants.{Refused, Trace}
-use Rattle.number_text.specs.Numbers.{numbers, readable}
+use Rattle.number_text.specs.Numbers.{blank, numbers, readable}
 
 -- what a trace file says
 pub record Recorded : Type 0 where
@@ -29,9 +29,17 @@ settingsOf xs =
 abbrev pub sections : List ℕ → Option Recorded
 sections xs = cond (hasSections xs) (some (record { settings = settingsOf xs; steps = drop 8 xs })) none
 
--- 'File at most 65,536 bytes'; none where the file's form is refused
+-- 'File at most 65,536 bytes'
+abbrev pub fileFits : List ℕ → Bool
+fileFits text = leb (length text) 65536
+
+-- what a file says; none where its form is refused
 unfoldable pub traceIn : List ℕ → Option Recorded
-traceIn text = cond (leb (length text) 65536 && readable text) (sections (numbers text)) none
+traceIn text = cond (fileFits text && readable text) (sections (numbers text)) none
+
+-- 'A file of no bytes, or of blanks and newlines alone within 01's file length' (document 02, Ask 1)
+unfoldable pub isEmptyTrace : List ℕ → Bool
+isEmptyTrace text = fileFits text && blank text
 
 -- read into a list of `room` places: in 4,104 there is room for every trace, and with fewer the file is refused
 unfoldable pub traceWithin : ℕ → List ℕ → Option Recorded

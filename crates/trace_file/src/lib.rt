@@ -1,9 +1,9 @@
-// The form of a trace file (document 01, 'Trace program'): from its numbers to settings and steps.
-// The public function answers for any text.
+// The form of a trace file (document 01, 'Trace program'): from its numbers to settings and steps. A file without numbers
+// is an empty trace (document 02, Ask 1). The public functions answer for any text.
 ghost use mathlib.Core.Path.{_≡_};
 ghost use Prim.Native.Nat.{_≤_};
 ghost use lib.ListN.{length, take};
-ghost use Rattle.trace_file.specs.Form.{sections, traceWithin, recorded, stepCount};
+ghost use Rattle.trace_file.specs.Form.{sections, traceWithin, isEmptyTrace, recorded, stepCount};
 use geometry::Settings;
 use number_text::Numbers;
 
@@ -63,4 +63,12 @@ pub fn parse(text: &[u8], numbers: &mut [u32]) -> Form
         Numbers::Unreadable => Form::Refused,
         Numbers::Count(count) => sections_of(numbers, count),
     }
+}
+
+// Tells whether a file is an empty trace: within the length of a file, it has no bytes, or blanks and newlines alone.
+pub fn is_empty_trace(text: &[u8]) -> bool
+    ensures { λ r. ⌜ r ≡ isEmptyTrace (now (text .entry)) ⌝ }
+{
+    let blank = number_text::is_blank(text);
+    (text.len() <= MOST_BYTES) & blank
 }

@@ -7,6 +7,9 @@ use crate::interpret::{Printed, Seen, Verdict, FILE_MOST, STEPS_MOST, TICK};
 pub struct Census {
     pub files: u64,
     form: u64,
+    /// Empty traces, and those of them with the most bytes.
+    empty: u64,
+    empty_most_bytes: u64,
     settings: [u64; 2],
     store: u64,
     ran: u64,
@@ -27,6 +30,10 @@ impl Census {
         self.byte_too_many += u64::from(file.bytes.len() == FILE_MOST + 1);
         match printed.verdict {
             Verdict::Form => self.form += 1,
+            Verdict::Empty => {
+                self.empty += 1;
+                self.empty_most_bytes += u64::from(file.bytes.len() == FILE_MOST);
+            }
             Verdict::Settings(number) => self.settings[usize::from(number != 1)] += 1,
             Verdict::Store => self.store += 1,
             Verdict::Ran(seen) => {
@@ -49,10 +56,12 @@ impl Census {
         self.steps.sent_home += seen.sent_home;
     }
 
-    fn lines(&self) -> [(&'static str, u64, u64); 17] {
+    fn lines(&self) -> [(&'static str, u64, u64); 19] {
         let reads = self.steps.reads;
         [
             ("form refused", self.form, 1_000),
+            ("empty traces", self.empty, 50),
+            ("   of 65,536 bytes", self.empty_most_bytes, 5),
             ("settings refused with 1", self.settings[0], 100),
             ("settings refused with 2", self.settings[1], 50),
             ("store too large", self.store, 50),

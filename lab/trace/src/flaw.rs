@@ -23,7 +23,11 @@ pub enum Flaw {
     LongFileTaken,
     LongFileCut,
     FullFileRefused,
-    EmptyFileTaken,
+    BlankFileRefused,
+    NoBytesAloneTaken,
+    LongBlankFileTaken,
+    EmptyTraceHasSettings,
+    ShortFileIsEmpty,
     FirstCountNotJudged,
     SevenSettingsTaken,
     SecondCountNotJudged,
@@ -62,7 +66,7 @@ impl Flaw {
 
 /// Which entry of those with count `spill` is taken shows in no answer, and nothing here depends on bytes; so only
 /// those errors of the engine are listed that an answer can show.
-pub const FLAWS: [Flaw; 52] = [
+pub const FLAWS: [Flaw; 56] = [
     Flaw::NumbersWrapAt32Bits,
     Flaw::NumbersWrapAt64Bits,
     Flaw::LargeNumbersCut,
@@ -81,7 +85,11 @@ pub const FLAWS: [Flaw; 52] = [
     Flaw::LongFileTaken,
     Flaw::LongFileCut,
     Flaw::FullFileRefused,
-    Flaw::EmptyFileTaken,
+    Flaw::BlankFileRefused,
+    Flaw::NoBytesAloneTaken,
+    Flaw::LongBlankFileTaken,
+    Flaw::EmptyTraceHasSettings,
+    Flaw::ShortFileIsEmpty,
     Flaw::FirstCountNotJudged,
     Flaw::SevenSettingsTaken,
     Flaw::SecondCountNotJudged,

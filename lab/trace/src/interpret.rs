@@ -1,5 +1,5 @@
-//! The trace program of document 01, written a second time and from that document alone: bytes in, bytes out. One
-//! deliberate error can be planted.
+//! The trace program of document 01, with the empty trace of document 02, written a second time and from these documents
+//! alone: bytes in, bytes out. One deliberate error can be planted.
 
 use crate::flaw::Flaw;
 use model::engine::{Model, Refusal, Served};
@@ -16,6 +16,8 @@ pub const TICK: u32 = 65_535;
 pub enum Verdict {
     /// The form is refused.
     Form,
+    /// No bytes, or blanks and newlines alone.
+    Empty,
     /// The settings are refused with this number.
     Settings(u32),
     /// The store is too large.
@@ -111,6 +113,12 @@ fn numbers(input: &[u8], flaw: Flaw) -> Option<Vec<u32>> {
     }
     // With numbers that wrap at 64 bits one may still be too large.
     all.into_iter().map(|(value, _)| u32::try_from(value).ok()).collect()
+}
+
+/// What a file is whose form is not refused.
+enum Form {
+    Empty,
+    Trace(Settings, Vec<u32>),
 }
 
 /// The two sections: six settings, and the steps.
@@ -225,24 +233,37 @@ fn run(s: &Settings, steps: &[u32], flaw: Flaw) -> Printed {
     Printed { text, verdict: Verdict::Ran(seen) }
 }
 
-fn judge_form(input: &[u8], flaw: Flaw) -> Option<(Settings, Vec<u32>)> {
+/// A file without numbers is an empty trace.
+fn is_empty(input: &[u8], numbers: &[u32], flaw: Flaw) -> bool {
+    match flaw {
+        Flaw::BlankFileRefused => false,
+        Flaw::NoBytesAloneTaken => input.is_empty(),
+        Flaw::ShortFileIsEmpty => numbers.len() < 8,
+        _ => numbers.is_empty(),
+    }
+}
+
+fn judge_form(input: &[u8], flaw: Flaw) -> Option<Form> {
     let most = match flaw {
         Flaw::LongFileTaken => FILE_MOST + 1,
         Flaw::FullFileRefused => FILE_MOST - 1,
         _ => FILE_MOST,
     };
     let input = if flaw == Flaw::LongFileCut { &input[..input.len().min(most)] } else { input };
-    if input.len() > most {
+    let too_long = input.len() > most;
+    if too_long && flaw != Flaw::LongBlankFileTaken {
         return None;
     }
-    sections(&numbers(input, flaw)?, flaw)
+    let numbers = numbers(input, flaw)?;
+    if is_empty(input, &numbers, flaw) {
+        return Some(Form::Empty);
+    }
+    let (settings, steps) = sections(&numbers, flaw).filter(|_| !too_long)?;
+    Some(Form::Trace(settings, steps))
 }
 
 /// What the trace program prints for a file.
 pub fn interpret(input: &[u8], flaw: Flaw) -> Printed {
-    if flaw == Flaw::EmptyFileTaken && input.iter().all(|byte| b" \n".contains(byte)) && input.len() <= FILE_MOST {
-        return Printed { text: String::new(), verdict: Verdict::Ran(Seen::default()) };
-    }
     let early = || {
         let all = numbers(input, flaw)?;
         let &[_, n, q, w, k, a, l] = all.first_chunk::<7>()?;
@@ -253,8 +274,11 @@ pub fn interpret(input: &[u8], flaw: Flaw) -> Printed {
             return settings_refused(number);
         }
     }
-    let Some((s, steps)) = judge_form(input, flaw) else {
-        return refused(Verdict::Form);
+    let (s, steps) = match judge_form(input, flaw) {
+        None => return refused(Verdict::Form),
+        Some(Form::Empty) if flaw == Flaw::EmptyTraceHasSettings => return settings_refused(1),
+        Some(Form::Empty) => return Printed { text: String::new(), verdict: Verdict::Empty },
+        Some(Form::Trace(s, steps)) => (s, steps),
     };
     if flaw == Flaw::StoreBeforeSettings && !store_fits(&s, flaw) {
         return refused(Verdict::Store);

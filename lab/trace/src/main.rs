@@ -1,4 +1,4 @@
-//! Compares the trace program with a second interpreter of trace files, written from document 01. Arguments: the
+//! Compares the trace program with a second interpreter of trace files, written from documents 01 and 02. Arguments: the
 //! program (target/bin/trace if none is given), then a seed. `--interpret` in place of the program makes this one the
 //! interpreter, from standard input to standard output; `--self` compares it with itself through a process. With both a
 //! fault may be named behind, to see it found.
@@ -31,11 +31,12 @@ const LONG: u64 = 1_000;
 /// Where a file is kept that the program fails on.
 const KEPT: &str = "target/trace-failed.in";
 
-/// The program's answer to one file is the one expected: standard output byte for byte, and exit status 0.
+/// The program's answer to one file is the one expected: standard output byte for byte, nothing on standard error, and exit
+/// status 0.
 fn compare(program: &Program, at: usize, file: &File, expected: &str) -> Result<(), String> {
     let piece = [usize::MAX, 4_096, 1_000, 60_000][at % 4];
     let ran = program.run(&file.bytes, piece)?;
-    if ran.status.success() && ran.output == expected.as_bytes() {
+    if ran.status.success() && ran.said.is_empty() && ran.output == expected.as_bytes() {
         return Ok(());
     }
     let shown = |bytes: &[u8]| {
@@ -45,11 +46,12 @@ fn compare(program: &Program, at: usize, file: &File, expected: &str) -> Result<
     let first = ran.output.iter().zip(expected.as_bytes()).position(|(got, wanted)| got != wanted);
     let kept = if std::fs::write(KEPT, &file.bytes).is_ok() { format!(", kept as {KEPT}") } else { String::new() };
     Err(format!(
-        "file {at} ({}{kept}), {}\nprogram, {}, {}\nexpected {}\nfirst difference at byte {}",
+        "file {at} ({}{kept}), {}\nprogram, {}, {}\nstandard error, {}\nexpected {}\nfirst difference at byte {}",
         file.rule,
         shown(&file.bytes),
         ran.status,
         shown(&ran.output),
+        shown(&ran.said),
         shown(expected.as_bytes()),
         first.unwrap_or(ran.output.len().min(expected.len())),
     ))
@@ -64,7 +66,7 @@ fn compare_vectors(program: &Program) -> Result<(), String> {
         }
         compare(program, at, &file, &vector.printed)?;
     }
-    println!("a. files with lines printed in document 01 or derived by hand: {}", vectors.len());
+    println!("a. files with lines printed in document 01 or derived by hand from 01 and 02: {}", vectors.len());
     Ok(())
 }
 
@@ -77,9 +79,29 @@ fn compare_files(program: &Program, files: &[Expected]) -> Result<(), String> {
         compare(program, at, file, &printed.text)?;
         census.note(file, printed);
     }
-    println!("b. files whose standard output was equal byte for byte, with exit status 0: {}", census.files);
+    println!(
+        "b. files whose standard output was equal byte for byte, with exit status 0 and no message: {}",
+        census.files
+    );
     census.print();
     census.judge()
+}
+
+/// Input that cannot be read to its end is refused, and a message says why: whether nothing came, a blank, or a whole trace.
+fn refuse_broken(program: &Program) -> Result<(), String> {
+    let inputs: [&[u8]; 4] = [b"", b" \n", b"6 4 2 1 2 2 5 2 1 1", b"6 4 2 1 2 2 5 2 1 1\n"];
+    for input in inputs {
+        let ran = program.run_broken(input)?;
+        if !ran.status.success()
+            || ran.output != b"trace refused\n"
+            || !ran.said.starts_with(b"trace: standard input: ")
+        {
+            let [printed, said] = [&ran.output, &ran.said].map(|bytes| String::from_utf8_lossy(bytes).into_owned());
+            return Err(format!("a read that fails after {input:?}: {}, {printed:?}, {said:?}", ran.status));
+        }
+    }
+    println!("c. inputs that cannot be read to their end, refused with a message: {}", inputs.len());
+    Ok(())
 }
 
 /// Every planted fault must show in some file.
@@ -89,7 +111,7 @@ fn planted_faults(files: &[Expected]) -> Result<(), String> {
         _ => 0,
     };
     let (long, short): (Vec<_>, Vec<_>) = files.iter().partition(|file| length(file) > LONG);
-    println!("c. planted faults, files that show each, of {} (of {} long ones: the first)", short.len(), long.len());
+    println!("d. planted faults, files that show each, of {} (of {} long ones: the first)", short.len(), long.len());
     let shows = |flaw: Flaw, (file, printed): &Expected| interpret(&file.bytes, flaw).text != printed.text;
     let mut unnoticed = Vec::new();
     for flaw in FLAWS {
@@ -126,6 +148,7 @@ fn run(program: &Program, seed: u64) -> Result<(), String> {
     time("files made");
     compare_files(program, &files)?;
     time("files compared");
+    refuse_broken(program)?;
     planted_faults(&files)?;
     time("planted faults");
     Ok(())
@@ -138,9 +161,14 @@ fn interpret_input(flaw: Option<String>) -> Result<(), String> {
         Some(name) => FLAWS.into_iter().find(|flaw| format!("{flaw:?}") == name).ok_or("no such fault")?,
     };
     let mut input = Vec::new();
-    std::io::stdin().read_to_end(&mut input).map_err(|error| error.to_string())?;
-    let printed = interpret(&input, flaw);
-    std::io::stdout().write_all(printed.text.as_bytes()).map_err(|error| error.to_string())
+    let text = match std::io::stdin().read_to_end(&mut input) {
+        Ok(_) => interpret(&input, flaw).text,
+        Err(error) => {
+            eprintln!("trace: standard input: {error}");
+            "trace refused\n".to_string()
+        }
+    };
+    std::io::stdout().write_all(text.as_bytes()).map_err(|error| error.to_string())
 }
 
 fn start() -> Result<(), String> {

@@ -1,7 +1,7 @@
 //! Files whose form is wrong, or that come close to it: good files with one thing changed.
 
 use crate::file::{File, Words, SECOND_COUNT};
-use crate::interpret::STEPS_MOST;
+use crate::interpret::{FILE_MOST, STEPS_MOST};
 use crate::sound::{chase, small};
 use model::rng::Rng;
 
@@ -123,6 +123,16 @@ fn both(rng: &mut Rng) -> File {
     File::new("settings and form", words.plain())
 }
 
+/// Blanks and newlines alone, up to the limit and just past it; in half of the files one other byte is among them.
+fn blank(rng: &mut Rng) -> File {
+    let length = rng.pick(&[0, 1, 2, 9, 80, 4_096, FILE_MOST - 1, FILE_MOST, FILE_MOST, FILE_MOST + 1]);
+    let mut bytes: Vec<u8> = (0..length).map(|_| rng.pick(b"   \n")).collect();
+    if rng.once_in(2) && length > 0 {
+        bytes[rng.below(length as u64) as usize] = rng.pick(BYTES);
+    }
+    File::new("blank", bytes)
+}
+
 /// Files of which there are only a few.
 fn few(rng: &mut Rng, files: &mut Vec<File>) {
     let blank: [&[u8]; 8] = [b"", b" ", b"\n", b"\n\n  \n", b"\t", b"\0", b"\r\n", b"\xef\xbb\xbf"];
@@ -160,7 +170,8 @@ fn few(rng: &mut Rng, files: &mut Vec<File>) {
 pub fn files(rng: &mut Rng, count: usize) -> Vec<File> {
     let mut files = Vec::new();
     few(rng, &mut files);
-    let rules: [fn(&mut Rng) -> File; 8] = [one_byte, one_byte, one_byte, separators, words, counts, counts, both];
+    let rules: [fn(&mut Rng) -> File; 9] =
+        [one_byte, one_byte, one_byte, separators, words, counts, counts, both, blank];
     while files.len() < count {
         let rule = rng.pick(&rules);
         files.push(rule(rng));

@@ -1,8 +1,10 @@
-//! The program under test, run once for each file: standard input to standard output.
+//! The program under test, run once for each file: standard input to standard output and standard error.
 
 use std::ffi::OsString;
-use std::io::{ErrorKind, Write};
-use std::process::{Command, ExitStatus, Stdio};
+use std::io::{Error, ErrorKind, Write};
+use std::os::fd::OwnedFd;
+use std::os::unix::net::UnixStream;
+use std::process::{Child, Command, ExitStatus, Output, Stdio};
 
 pub struct Program {
     pub path: OsString,
@@ -12,20 +14,48 @@ pub struct Program {
 pub struct Ran {
     pub status: ExitStatus,
     pub output: Vec<u8>,
+    /// Standard error.
+    pub said: Vec<u8>,
+}
+
+impl From<Output> for Ran {
+    fn from(ended: Output) -> Ran {
+        Ran { status: ended.status, output: ended.stdout, said: ended.stderr }
+    }
 }
 
 impl Program {
+    fn start(&self, input: Stdio) -> std::io::Result<Child> {
+        Command::new(&self.path)
+            .args(&self.arguments)
+            .stdin(input)
+            .stdout(Stdio::piped())
+            .stderr(Stdio::piped())
+            .spawn()
+    }
+
+    fn cannot(&self, what: &str, error: Error) -> String {
+        format!("cannot {what} {}: {error}", self.path.display())
+    }
+
+    /// Runs the program on input that begins with the given bytes and then cannot be read: a stream that does not wait
+    /// for more, and whose other end stays open.
+    pub fn run_broken(&self, input: &[u8]) -> Result<Ran, String> {
+        let broken = || {
+            let (mut here, there) = UnixStream::pair()?;
+            there.set_nonblocking(true)?;
+            here.write_all(input)?;
+            let ended = self.start(OwnedFd::from(there).into())?.wait_with_output()?;
+            drop(here);
+            Ok(Ran::from(ended))
+        };
+        broken().map_err(|error| self.cannot("run", error))
+    }
+
     /// Runs the program on a file. The input goes through a pipe in pieces of the given size, so that it arrives by and
     /// by; a program that ends before it has read everything is no error here.
     pub fn run(&self, input: &[u8], piece: usize) -> Result<Ran, String> {
-        let cannot = |what: &str, error: std::io::Error| format!("cannot {what} {}: {error}", self.path.display());
-        let mut child = Command::new(&self.path)
-            .args(&self.arguments)
-            .stdin(Stdio::piped())
-            .stdout(Stdio::piped())
-            .stderr(Stdio::null())
-            .spawn()
-            .map_err(|error| cannot("start", error))?;
+        let mut child = self.start(Stdio::piped()).map_err(|error| self.cannot("start", error))?;
         let pipe = child.stdin.take();
         let (written, ended) = std::thread::scope(|scope| {
             let writer = scope.spawn(move || match pipe {
@@ -36,11 +66,11 @@ impl Program {
             (writer.join(), ended)
         });
         match written {
-            Ok(Err(error)) if error.kind() != ErrorKind::BrokenPipe => return Err(cannot("write to", error)),
+            Ok(Err(error)) if error.kind() != ErrorKind::BrokenPipe => return Err(self.cannot("write to", error)),
             Err(_) => return Err("the writer's thread failed".to_string()),
             _ => {}
         }
-        let ended = ended.map_err(|error| cannot("read from", error))?;
-        Ok(Ran { status: ended.status, output: ended.stdout })
+        let ended = ended.map_err(|error| self.cannot("read from", error))?;
+        Ok(Ran::from(ended))
     }
 }

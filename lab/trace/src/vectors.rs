@@ -1,4 +1,4 @@
-//! Files with the lines that document 01 prints for them, or that were derived from it by hand.
+//! Files with the lines that document 01 prints for them, or that were derived by hand from 01 and 02.
 
 const REFUSED: &str = "trace refused\n";
 
@@ -49,15 +49,29 @@ const DERIVED: [(&str, &str); 18] = [
     ("6 27268 5500 1 4096 1 4096 2 27267 27267", "1 0 27267 0 -\n2 0 27268 1 -\n"),
 ];
 
+/// Empty traces, which print nothing (document 02, Ask 1): no bytes, or blanks and newlines alone.
+const EMPTY: [&str; 7] = ["", " ", "\n", "\n\n", " \n", "\n ", "   \n \n\n  "];
+
 /// Files refused whole.
-const NO_TRACE: [&str; 34] = [
-    "",
-    " ",
-    "\n",
+const NO_TRACE: [&str; 43] = [
+    // A section alone, or less than one.
+    "0",
     "6",
+    " 6\n",
+    "6 4 2 1 2 2",
     "6 4 2 1 2 2 5",
     "6 4 2 1 2 2 5\n",
+    "6 0 0 0 0 0 0",
     "4 2 1 2 2 5 0",
+    // Bytes that look empty and are neither blank nor newline.
+    "\t",
+    "\r\n",
+    "\0",
+    " \t ",
+    "\x0b",
+    "\x0c",
+    "\u{a0}",
+    "\u{feff}",
     // Counts that do not fit.
     "5 4 2 1 2 2 0",
     "7 4 2 1 2 2 5 0",
@@ -97,6 +111,14 @@ pub fn all() -> Vec<Vector> {
         |&(file, printed): &(&str, &str)| Vector { file: file.as_bytes().to_vec(), printed: printed.to_string() };
     let mut all: Vec<Vector> = std::iter::once(&SESSION).chain(&DERIVED).map(pair).collect();
     all.extend(NO_TRACE.map(|file| Vector { file: file.as_bytes().to_vec(), printed: REFUSED.to_string() }));
+    all.extend(EMPTY.map(|file| Vector { file: file.as_bytes().to_vec(), printed: String::new() }));
+    // Blanks or newlines alone, up to the file's length and past it.
+    for (length, printed) in [(65_535, ""), (65_536, ""), (65_537, REFUSED), (65_538, REFUSED), (131_072, REFUSED)] {
+        for with in [" ", "\n", " \n"] {
+            let file = with.bytes().cycle().take(length).collect();
+            all.push(Vector { file, printed: printed.to_string() });
+        }
+    }
     // The session's numbers in a file of exactly 65,536 bytes, and in one of a byte more.
     let session = SESSION.0.trim_end();
     for (length, printed) in [(65_536, SESSION.1), (65_537, REFUSED)] {

@@ -1,4 +1,4 @@
--- `trace::main` is safe: what was printed is within the page. Assumes nothing.
+-- `trace::main` is safe: what was read is within the text, and what was printed within the page. Assumes nothing.
 use mathlib.Core.Path.{sym}
 use lib.Seq.{length-take-le}
 use borrow.Author.Needs.{needs}
@@ -8,35 +8,32 @@ use Rattle.trace.proofs.main.Tie as tie
 text-buffer-requires : tie.Need-text-buffer-requires
 text-buffer-requires c κs = search needs
 
-slice-aggregate-read-full : tie.Need-slice-aggregate-read-full
-slice-aggregate-read-full c = search needs
+slice-aggregate-read-all : tie.Need-slice-aggregate-read-all
+slice-aggregate-read-all c = search needs
 
-read-full-requires : tie.Need-read-full-requires
-read-full-requires c κs = search needs
+read-all-requires : tie.Need-read-all-requires
+read-all-requires c κs = search needs
 
 page-buffer-requires : tie.Need-page-buffer-requires
 page-buffer-requires c κs = search needs
 
-array-share-prefix-text : tie.Need-array-share-prefix-text
-array-share-prefix-text c = search needs
+slice-aggregate-put-lines : tie.Need-slice-aggregate-put-lines
+slice-aggregate-put-lines c = search needs
 
-slice-aggregate-replay : tie.Need-slice-aggregate-replay
-slice-aggregate-replay c = search needs
+slice-aggregate-put-lines-2 : tie.Need-slice-aggregate-put-lines-2
+slice-aggregate-put-lines-2 c = search needs
 
-slice-aggregate-replay-2 : tie.Need-slice-aggregate-replay-2
-slice-aggregate-replay-2 c = search needs
-
-replay-requires : tie.Need-replay-requires
-replay-requires c κs = search needs
+put-lines-requires : tie.Need-put-lines-requires
+put-lines-requires c κs = search needs
 
 array-share-prefix-page : tie.Need-array-share-prefix-page
 array-share-prefix-page c = search needs
 
-slice-aggregate-write-all : tie.Need-slice-aggregate-write-all
-slice-aggregate-write-all c = sym (length-take-le _ _ (c .before .before .replay .ensures .0))
+slice-aggregate-write-out : tie.Need-slice-aggregate-write-out
+slice-aggregate-write-out c = sym (length-take-le _ _ (c .before .before .put-lines .ensures .0))
 
-write-all-requires : tie.Need-write-all-requires
-write-all-requires c κs = search needs
+write-out-requires : tie.Need-write-out-requires
+write-out-requires c κs = search needs
 
 returns : tie.Need-returns
 returns c = search needs
@@ -46,14 +43,13 @@ main-spec =
     tie.close
     (tie.spec
     text-buffer-requires
-    slice-aggregate-read-full
-    read-full-requires
+    slice-aggregate-read-all
+    read-all-requires
     page-buffer-requires
-    array-share-prefix-text
-    slice-aggregate-replay
-    slice-aggregate-replay-2
-    replay-requires
+    slice-aggregate-put-lines
+    slice-aggregate-put-lines-2
+    put-lines-requires
     array-share-prefix-page
-    slice-aggregate-write-all
-    write-all-requires
+    slice-aggregate-write-out
+    write-out-requires
     returns)

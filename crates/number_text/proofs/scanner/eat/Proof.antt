@@ -1,6 +1,6 @@
 -- `number_text::scanner::eat` meets its contract: one law of `outcome` for each return. Assumes nothing.
 use native.Mathlib.Omega.{arith}
-use mathlib.Core.Path.{_∙_}
+use mathlib.Core.Path.{sym, _∙_}
 use borrow.Author.Needs.{needs}
 use Rattle.number_text.proofs.Outcomes.{digit-read, too-large, gap-read, byte-refused, past-refused}
 use Rattle.number_text.proofs.scanner.eat.Statement.{statement}
@@ -27,6 +27,9 @@ returns-2 c =
       same = λ rest. digit-read (a .list .now) (a .s) rest (a .b) (v .result) (v .ensures) (c .before .before .if1 .taken);
     }
 
+is-gap-requires : tie.Need-is-gap-requires
+is-gap-requires c κs = search needs
+
 end-number-requires : tie.Need-end-number-requires
 end-number-requires c κs = search needs
 
@@ -35,18 +38,20 @@ same-length c = search needs
 
 returns-3 : tie.Need-returns-3
 returns-3 c =
-    let a = c .before .before .before .before .before .before .before .args in
+    let t = c .before .before .before .before in
+    let a = t .before .before .before .before .args in
     let e = c .before .before .end-number .ensures .0 in
-    let no-digit = c .before .before .before .before .before .if1 .left in
+    let gap = sym (t .before .is-gap .ensures) ∙ t .if3 .taken in
     record {
       within = e .within;
-      same = λ rest. e .same rest ∙ gap-read (a .list .now) (a .s) rest (a .b) no-digit (c .before .before .before .before .if3 .taken);
+      same = λ rest. e .same rest ∙ gap-read (a .list .now) (a .s) rest (a .b) (t .before .before .if1 .left) gap;
     }
 
 returns-4 : tie.Need-returns-4
 returns-4 c =
-    let a = c .before .before .before .args in
-    past-refused (a .list .now) (a .s) (a .b) (λ rest. byte-refused (a .list .now) (a .s) rest (a .b) (c .before .if1 .left) (c .if3 .left))
+    let a = c .before .before .before .before .args in
+    let gap = sym (c .before .is-gap .ensures) ∙ c .if3 .left in
+    past-refused (a .list .now) (a .s) (a .b) (λ rest. byte-refused (a .list .now) (a .s) rest (a .b) (c .before .before .if1 .left) gap)
 
 pub eat-spec : {M : Type 1} → statement M
 eat-spec =
@@ -56,6 +61,7 @@ eat-spec =
     returns
     cast-t9
     returns-2
+    is-gap-requires
     end-number-requires
     same-length
     returns-3
