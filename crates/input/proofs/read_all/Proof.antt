@@ -1,10 +1,12 @@
 -- `input::read_all` meets its contract. Invariant: the buffer has its length, and what was read fits it. Assumes nothing.
 use Prim.Native.Nat.{ℕ, _-_, _≤_}
 use native.Mathlib.Omega.{arith}
-use mathlib.Core.Path.{_≡_, sym, subst, _∙_}
+use mathlib.Core.Path.{_≡_, sym, subst}
 use lib.ListN.{length, take, drop, length-take}
 use borrow.Author.Needs.{needs}
-use Rattle.input.proofs.Answers.{Given, given}
+use Rattle.libc.specs.Io.{Moved}
+use Rattle.input.specs.declared.Next.{Next}
+use Rattle.input.proofs.Answers.{Within, within}
 use Rattle.input.proofs.read_all.Statement.{statement}
 use Rattle.input.proofs.read_all.Tie as tie
 
@@ -32,60 +34,59 @@ read-requires c κs = search needs
 judge-requires : tie.Need-judge-requires Inv-loop μ-loop
 judge-requires c κs = search needs
 
-enum-told : tie.Need-enum-told Inv-loop μ-loop
-enum-told c = search needs
+-- what follows a read keeps within what came before it and the room that was left
+abbrev Held : tie.After-judge Inv-loop μ-loop → Next → Type 0
+Held t =
+    let l = t .before .before .before .before .before .before .loop in
+    Within (l .done) (length (l .buffer) - l .done)
+
+told : (t : tie.After-judge Inv-loop μ-loop) → Held t (t .judge .result)
+told t =
+    let r = t .before .before .before in
+    let l = r .before .before .before .loop in
+    let rest = drop (l .done) (l .buffer) in
+    let room = length (l .buffer) - l .done in
+    let all : length (take room rest) ≡ room = omega (arith, length-take room rest) in
+    let moved = subst (λ (n : ℕ). Moved n (r .read .result)) all (r .read .ensures) in
+    subst (Held t) (sym (t .judge .ensures)) (within (l .done) room (r .read .result) (record { sfits = r .read .ok }) moved)
+
+enum-known-next : tie.Need-enum-known-next Inv-loop μ-loop
+enum-known-next c = search needs
 
 same-length : tie.Need-same-length Inv-loop μ-loop
 same-length c = search needs
 
 returns : tie.Need-returns Inv-loop μ-loop
-returns c = search needs
+returns c =
+    let t = c .before .before .before in
+    omega (arith, subst (Held t) (c .before .next .given .1) (told t))
 
-enum-told-2 : tie.Need-enum-told-2 Inv-loop μ-loop
-enum-told-2 c = search needs
+enum-known-next-2 : tie.Need-enum-known-next-2 Inv-loop μ-loop
+enum-known-next-2 c = search needs
+
+-- where bytes came: at least one, and no more than there was room for
+came :
+    (k : tie.After-known-told2 Inv-loop μ-loop)
+    → let l = k .before .before .before .before .before .before .before .before .before .loop in
+    (1 ≤ k .before .next2 .given .0 .0) × (k .before .next2 .given .0 .0 ≤ length (l .buffer) - l .done)
+came k =
+    let t = k .before .before .before in
+    subst (Held t) (k .before .next2 .given .1) (told t)
+
+add-done : tie.Need-add-done Inv-loop μ-loop
+add-done c = record { fits = omega (arith, came c) }
+
+loop-less : tie.Need-loop-less Inv-loop μ-loop
+loop-less c = omega (arith, came c)
+
+loop-again : tie.Need-loop-again Inv-loop μ-loop
+loop-again c = omega (arith, came c)
 
 same-length-2 : tie.Need-same-length-2 Inv-loop μ-loop
 same-length-2 c = search needs
 
 returns-2 : tie.Need-returns-2 Inv-loop μ-loop
 returns-2 c = search needs
-
-enum-known-more : tie.Need-enum-known-more Inv-loop μ-loop
-enum-known-more c = search needs
-
--- a read that gave bytes gave at least one, and no more than there was room for
-module _ (c : tie.After-known-told Inv-loop μ-loop) where
-  abbrev came : ℕ
-  came = c .before .more .given .0 .0
-
-  fits-room :
-      let l = c .before .before .before .before .before .before .before .before .before .loop in
-      (1 ≤ came) × (came ≤ length (l .buffer) - l .done)
-  fits-room =
-      let t = c .before .before .before in
-      let r = t .before .before .before in
-      let l = r .before .before .before .loop in
-      let rest = drop (l .done) (l .buffer) in
-      let room = length (l .buffer) - l .done in
-      let most = length (take room rest) in
-      let told = sym (t .judge .ensures) ∙ c .before .more .given .1 in
-      let g = subst (Given most) told (given most (r .read .result) (record { sfits = r .read .ok }) (r .read .ensures)) in
-      (g .0, omega (arith, g .1, length-take room rest))
-
-add-done : tie.Need-add-done Inv-loop μ-loop
-add-done c = record { fits = omega (arith, fits-room c) }
-
-loop-less : tie.Need-loop-less Inv-loop μ-loop
-loop-less c = omega (arith, fits-room c)
-
-loop-again : tie.Need-loop-again Inv-loop μ-loop
-loop-again c = omega (arith, fits-room c)
-
-same-length-3 : tie.Need-same-length-3 Inv-loop μ-loop
-same-length-3 c = search needs
-
-returns-3 : tie.Need-returns-3 Inv-loop μ-loop
-returns-3 c = search needs
 
 pub read-all-spec : {M : Type 1} → statement M
 read-all-spec =
@@ -99,15 +100,12 @@ read-all-spec =
     part-read-end
     read-requires
     judge-requires
-    enum-told
+    enum-known-next
     same-length
     returns
-    enum-told-2
-    same-length-2
-    returns-2
-    enum-known-more
+    enum-known-next-2
     add-done
     loop-less
     loop-again
-    same-length-3
-    returns-3)
+    same-length-2
+    returns-2)
