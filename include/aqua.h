@@ -50,13 +50,18 @@ typedef struct {
     uint32_t acts; /* accepted accesses this epoch */
 } aqua_control;
 
-/* The answer of a read or a write. In a refusal place is 0, and slot and row are AQUA_NONE. */
+/* The answer of a read or a write. In a refusal place and estimate are 0, and slot and row are AQUA_NONE. */
 typedef struct {
-    uint32_t number; /* 0, or the refusal's number */
-    uint32_t slot;   /* the slot that the row was moved to, or AQUA_NONE */
-    uint32_t row;    /* the row that was sent home for it, or AQUA_NONE */
-    uint64_t place;  /* the physical row that was opened */
+    uint32_t number;   /* 0, or the refusal's number */
+    uint32_t slot;     /* the slot that the row was moved to, or AQUA_NONE */
+    uint32_t row;      /* the row that was sent home for it, or AQUA_NONE */
+    uint32_t estimate; /* the tracker's estimate of place after the access, or 0 where only spill rose */
+    uint64_t place;    /* the physical row that was opened */
 } aqua_outcome;
+
+/* What the estimate tells. The row was moved exactly where estimate is not 0 and settings.a divides it. Of the accesses that
+ * opened place in this epoch, this one included, there were at most estimate, and at least estimate - control.spill; where
+ * estimate is 0, at most control.spill, which is below settings.a. */
 
 /* Where a part of the store lies. */
 typedef struct {

@@ -57,6 +57,8 @@ static void session(void) {
     memset(counts, 7, sizeof counts);
     memset(&control, 7, sizeof control);
     expect(set_up(settings) == 0, "set-up is accepted");
+    /* the estimate of each step: 0 where only spill rises (5, 12), in a refusal (6, 17), and at a tick (7, 13) */
+    static const uint32_t estimates[] = {1, 2, 1, 2, 0, 0, 0, 1, 2, 1, 2, 0, 0, 1, 2, 1, 0};
     while (scanf("%u", &row) == 1) {
         printf("%u", ++step);
         if (row == TICK) {
@@ -69,6 +71,8 @@ static void session(void) {
             field(o.slot != AQUA_NONE, o.slot);
             field(o.row != AQUA_NONE, o.row);
             printf("\n");
+            expect(step <= sizeof estimates / sizeof *estimates && o.estimate == estimates[step - 1],
+                   "the session's estimates");
         }
     }
     expect(step == count, "a trace file has as many steps as it says");
@@ -80,12 +84,13 @@ static void bytes(void) {
     expect(set_up(settings) == 0, "set-up is accepted again");
     aqua_outcome o = aqua_write(&control, settings, 1, 0, &value, 1, store, sizeof store, forward, N, reverse, Q, rows,
                                 K, counts, K);
-    expect(o.number == 0 && o.place == 1, "a write at home");
+    expect(o.number == 0 && o.place == 1 && o.estimate == 1, "a write at home");
     o = aqua_write(&control, settings, 1, W, &value, 1, store, sizeof store, forward, N, reverse, Q, rows, K, counts,
                    K);
-    expect(o.number == 6 && o.place == 0 && o.slot == AQUA_NONE && o.row == AQUA_NONE, "a write past W gets 6");
+    expect(o.number == 6 && o.place == 0 && o.slot == AQUA_NONE && o.row == AQUA_NONE && o.estimate == 0,
+           "a write past W gets 6");
     o = read_row(1, buffer);
-    expect(o.number == 0 && o.slot == 0 && buffer[0] == 42, "the read that moves the row returns the byte");
+    expect(o.number == 0 && o.slot == 0 && o.estimate == settings.a && buffer[0] == 42, "the read that moves the row returns the byte");
     expect(aqua_inspect_number(&control, settings, 1, store, sizeof store, forward, N, reverse, Q, rows, K, counts,
                                K) == 0, "inspect is accepted");
     aqua_span span = inspect_span(1);

@@ -13,13 +13,14 @@ use Rattle.engine.specs.State.{Storage, storageOf, controlOf}
 use Rattle.access.specs.declared.Answered.{Answered}
 
 -- t: the tracker after step 2; x: the answer
-module _ {p : PhysicalRow} {m : Move} {ring : Ring} {acts spill estimate : ℕ} {rows counts : List ℕ} {t : Tracked} {x : Answered}
-    (followed : trackedOf rows counts spill estimate ≡ t) (answered : x ≡ record { answer = Done p m; control = controlOf ring spill (suc acts) }) where
-  pub stayed : (x ≡ record { answer = Done p m; control = controlOf ring (t .spill) (suc acts) }) × (rows ≡ t .rows) × (counts ≡ t .counts)
-  stayed = rw (← followed) (answered, refl, refl)
+module _ {p : PhysicalRow} {m : Move} {ring : Ring} {acts spill way-estimate estimate : ℕ} {rows counts : List ℕ} {t : Tracked} {x : Answered}
+    (followed : trackedOf rows counts spill way-estimate ≡ t) (estimated : estimate ≡ way-estimate)
+    (answered : x ≡ record { answer = Done p estimate m; control = controlOf ring spill (suc acts) }) where
+  pub stayed : (x ≡ record { answer = Done p (t .estimate) m; control = controlOf ring (t .spill) (suc acts) }) × (rows ≡ t .rows) × (counts ≡ t .counts)
+  stayed = rw (← followed, ← estimated) (answered, refl, refl)
 
   -- n: the move into the slot; l: the storage after step 4
   pub gone : {n : Move} {store forward reverse : List ℕ} {l : Storage} → m ≡ n → storageOf store forward reverse ring ≡ l
-      → (x ≡ record { answer = Done p n; control = controlOf (l .ring) (t .spill) (suc acts) }) × (storageOf store forward reverse (l .ring) ≡ l)
+      → (x ≡ record { answer = Done p (t .estimate) n; control = controlOf (l .ring) (t .spill) (suc acts) }) × (storageOf store forward reverse (l .ring) ≡ l)
       × (rows ≡ t .rows) × (counts ≡ t .counts)
-  gone same moved = rw (← same, ← moved, ← followed) (answered, refl, refl, refl)
+  gone same moved = rw (← same, ← moved, ← followed, ← estimated) (answered, refl, refl, refl)

@@ -64,7 +64,7 @@ module _ (S : Settings) (σ : State) (r : ℕ) (off : Bool) (after filled buffer
         ∙ follow-choice (place S σ r) (σ .rows) (σ .counts) (σ .control .spill)
 
     pub stay-is : Stay ≡ judgementOf S σ r off → {t : Answered} {rows counts : List ℕ}
-        → t ≡ record { answer = Done p Stayed; control = controlOf (ringOf (σ .control)) (now .spill) (suc (σ .control .acts)) }
+        → t ≡ record { answer = Done p (now .estimate) Stayed; control = controlOf (ringOf (σ .control)) (now .spill) (suc (σ .control .acts)) }
         → rows ≡ now .rows → counts ≡ now .counts
         → accessedOf (stateOf after (σ .forward) (σ .reverse) rows counts (t .control)) (t .answer) filled
         ≡ accessed S σ r (accessNumber S σ r off) after filled buffer
@@ -76,7 +76,7 @@ module _ (S : Settings) (σ : State) (r : ℕ) (off : Bool) (after filled buffer
 
     pub go-is : {d : Slot} {held : ReverseEntry} {up : ℕ} → Go d held up ≡ judgementOf S σ r off → {t : Answered} {store forward reverse rows counts : List ℕ}
         → (let l : Storage = relocated S r (p .0) (moveInto (d .0) (held .0)) (storageOf after (σ .forward) (σ .reverse) (ringOf (σ .control))) in
-        (t ≡ record { answer = Done p (moveInto (d .0) (held .0)); control = controlOf (l .ring) (now .spill) (suc (σ .control .acts)) })
+        (t ≡ record { answer = Done p (now .estimate) (moveInto (d .0) (held .0)); control = controlOf (l .ring) (now .spill) (suc (σ .control .acts)) })
         × (storageOf store forward reverse (l .ring) ≡ l))
         → rows ≡ now .rows → counts ≡ now .counts
         → accessedOf (stateOf store forward reverse rows counts (t .control)) (t .answer) filled

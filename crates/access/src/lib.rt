@@ -40,13 +40,23 @@ fn refused(control: Control, number: u32) -> Answered
 }
 
 // Returns the answer of an accepted access, with `acts` risen by 1 (step 3).
-fn done(ring: Ring, spill: u32, acts: u32, place: PhysicalRow, moved: Move) -> Answered
+fn done(
+    ring: Ring,
+    spill: u32,
+    acts: u32,
+    place: PhysicalRow,
+    estimate: u32,
+    moved: Move,
+) -> Answered
     requires { ⌜ acts < 1360000 ⌝ }
-    ensures { λ r. ⌜ r ≡ record { answer = Access.Done place moved; control = controlOf ring spill (suc acts) } ⌝ }
+    ensures { λ r.
+        let next = controlOf ring spill (suc acts) in
+        ⌜ r ≡ record { answer = Access.Done place estimate moved; control = next } ⌝ }
 {
     Answered {
         answer: Access::Done {
             place: place,
+            estimate: estimate,
             moved: moved,
         },
         control: Control {
@@ -70,7 +80,7 @@ fn stay(
     ensures { λ r.
         let t = followed choice (place .0) (now (rows .entry)) (now (counts .entry)) (control .spill) in
         let next = controlOf (ringOf control) (t .spill) (suc (control .acts)) in
-        ⌜ (r ≡ record { answer = Access.Done place Move.Stayed; control = next })
+        ⌜ (r ≡ record { answer = Access.Done place (t .estimate) Move.Stayed; control = next })
         × (now (rows .exit) ≡ t .rows) × (now (counts .exit) ≡ t .counts) ⌝ }
 {
     let spill = tracker::follow(choice, place, rows, counts, control.spill);
@@ -78,7 +88,8 @@ fn stay(
         head: control.head,
         passed: control.passed,
     };
-    done(ring, spill, control.acts, place, Move::Stayed)
+    let estimate = tracker::estimate(choice);
+    done(ring, spill, control.acts, place, estimate, Move::Stayed)
 }
 
 // What is left to do after the bytes where the row is quarantined: step 2, `acts`, and step 4.
@@ -107,7 +118,7 @@ fn go(
         let l = relocated s (row .0) (place .0) m before in
         let t = followed choice (place .0) (now (rows .entry)) (now (counts .entry)) (control .spill) in
         let next = controlOf (l .ring) (t .spill) (suc (control .acts)) in
-        ⌜ (r ≡ record { answer = Access.Done place m; control = next })
+        ⌜ (r ≡ record { answer = Access.Done place (t .estimate) m; control = next })
         × (storageOf (now (store .exit)) (now (forward .exit)) (now (reverse .exit)) (l .ring) ≡ l)
         × (now (rows .exit) ≡ t .rows) × (now (counts .exit) ≡ t .counts) ⌝ }
 {
@@ -129,7 +140,15 @@ fn go(
         forward,
         reverse,
     );
-    done(next, spill, control.acts, place, settle::move_into(d, held))
+    let estimate = tracker::estimate(choice);
+    done(
+        next,
+        spill,
+        control.acts,
+        place,
+        estimate,
+        settle::move_into(d, held),
+    )
 }
 
 // Read: the row's bytes go into the buffer where it is accepted.

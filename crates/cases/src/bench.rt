@@ -9,21 +9,28 @@ use geometry::Settings;
 use sizing::RefreshTimes;
 use sizing::SizeTimes;
 
-// What a call answers, in numbers: number, place, slot moved to, row sent home, 65535 for none, and the length of inspect's
-// part. And the memory after it.
+// What a call answers, in numbers: number, place, slot moved to, row sent home, 65535 for none, estimate, and the length of
+// inspect's part. And the memory after it.
 pub struct Step {
-    pub answer: [u64; 5],
+    pub answer: [u64; 6],
     pub memory: Memory,
 }
 
 // The numbers of a set-up, a tick or an inspect.
-fn numbered(number: u32, length: usize) -> [u64; 5] {
-    [number as u64, 0, 65535, 65535, length as u64]
+fn numbered(number: u32, length: usize) -> [u64; 6] {
+    [number as u64, 0, 65535, 65535, 0, length as u64]
 }
 
 // The numbers of a read or a write.
-fn placed(o: Outcome) -> [u64; 5] {
-    [o.number as u64, o.place, o.slot as u64, o.row as u64, 0]
+fn placed(o: Outcome) -> [u64; 6] {
+    [
+        o.number as u64,
+        o.place,
+        o.slot as u64,
+        o.row as u64,
+        o.estimate as u64,
+        0,
+    ]
 }
 
 // A memory as it is. The contract tells the lengths of its arrays, which lending a part of one asks.

@@ -24,10 +24,10 @@ pub fn other_number(numbers: &Numbers, m: Memory, part: usize, from: usize, coun
     256
 }
 
-// The first of an answer's figures that is not as expected; 5 where there is none.
-pub fn other_figure(a: [u64; 5], b: [u64; 5]) -> usize {
+// The first of an answer's figures that is not as expected; 6 where there is none.
+pub fn other_figure(a: [u64; 6], b: [u64; 6]) -> usize {
     let mut i: usize = 0;
-    while i < 5 {
+    while i < 6 {
         if a[i] != b[i] {
             return i;
         }
@@ -50,10 +50,10 @@ pub fn changed_part(c: Case, all: bool) -> usize {
 }
 
 // Case: the answer whole.
-pub fn check_answer(c: Case, expected: [u64; 5]) -> Case {
+pub fn check_answer(c: Case, expected: [u64; 6]) -> Case {
     let found = c.answer;
     let i = other_figure(found, expected);
-    if i < 5 {
+    if i < 6 {
         return report::wrong_answer(c, i, expected[i], found[i]);
     }
     report::right(c)
@@ -71,15 +71,26 @@ pub fn part_length(c: Case) -> u64 {
 // Case: the last call is accepted.
 pub fn accept(c: Case) -> Case {
     let a = c.answer;
-    check_answer(c, [0, a[1], a[2], a[3], part_length(c)])
+    check_answer(c, [0, a[1], a[2], a[3], a[4], part_length(c)])
 }
 
-// `accepted`: with this place, slot moved to and row sent home, where they are told.
+// `accepted`: with this place, slot moved to, row sent home and estimate, where they are told. A sum has no estimate.
 pub fn accepted(numbers: &Numbers, c: Case, count: usize) -> Case {
     if count == 0 {
         return accept(c);
     }
-    check_answer(c, [0, numbers[0], numbers[1], numbers[2], part_length(c)])
+    let estimate = if count == 4 { numbers[3] } else { 0 };
+    check_answer(
+        c,
+        [
+            0,
+            numbers[0],
+            numbers[1],
+            numbers[2],
+            estimate,
+            part_length(c),
+        ],
+    )
 }
 
 // Case: the memory is as it was before the call, all of it or what no line has spoken of.
@@ -100,9 +111,9 @@ pub fn kept(c: Case, all: bool) -> Case {
 
 // Case: the last call is refused. Beside the number the answer holds nothing, and the memory is as it was.
 pub fn refused(c: Case, number: u64) -> Case {
-    let expected = [number, 0, 65535, 65535, 0];
+    let expected = [number, 0, 65535, 65535, 0, 0];
     let found = c.answer;
-    if other_figure(found, expected) < 5 {
+    if other_figure(found, expected) < 6 {
         return check_answer(c, expected);
     }
     kept(c, true)
@@ -110,8 +121,8 @@ pub fn refused(c: Case, number: u64) -> Case {
 
 // Case: inspect shows the numbers.
 pub fn shown_is(numbers: &Numbers, c: Case, count: usize) -> Case {
-    if c.answer[4] != (count as u64) {
-        return report::wrong_answer(c, 4, count as u64, c.answer[4]);
+    if c.answer[5] != (count as u64) {
+        return report::wrong_answer(c, 5, count as u64, c.answer[5]);
     }
     let i = other_number(numbers, c.now, memory::BYTES, 0, count);
     if i < 256 {

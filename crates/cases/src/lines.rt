@@ -136,7 +136,7 @@ fn write(numbers: &Numbers, c: Case, count: usize) -> Case {
 }
 
 // `span`, `size`, `most`: what the numbers alone are answered.
-fn asked(numbers: &Numbers, c: Case, verb: usize, count: usize) -> [u64; 5] {
+fn asked(numbers: &Numbers, c: Case, verb: usize, count: usize) -> [u64; 6] {
     if verb == script::SPAN {
         let last = if count == 2 { numbers[1] } else { numbers[0] };
         let off = bench::span_number(
@@ -145,14 +145,14 @@ fn asked(numbers: &Numbers, c: Case, verb: usize, count: usize) -> [u64; 5] {
             numbers[0] as usize,
             last as usize,
         );
-        return [off as u64, 0, 65535, 65535, 0];
+        return [off as u64, 0, 65535, 65535, 0, 0];
     }
     let sum = if verb == script::SIZE {
         bench::least_size(numbers)
     } else {
         bench::most_activations(numbers)
     };
-    [sum.number as u64, sum.value, 65535, 65535, 0]
+    [sum.number as u64, sum.value, 65535, 65535, 0, 0]
 }
 
 // A line that makes a call.
@@ -187,12 +187,12 @@ pub fn answers(
     verb: usize,
     row: u64,
     column: u64,
-    expected: [u64; 5],
+    expected: [u64; 6],
     left: Memory,
 ) -> Case {
     let d = make(c, m, verb, row, column);
     let found = d.answer;
-    if expect::other_figure(found, expected) < 5 {
+    if expect::other_figure(found, expected) < 6 {
         return expect::check_answer(d, expected);
     }
     let mut e = d;

@@ -46,7 +46,7 @@ fn begin() -> Case {
         now: m,
         before: m,
         ready: false,
-        answer: [0u64; 5],
+        answer: [0u64; 6],
         called: 0,
         said: [false; 8],
         line: 1,

@@ -215,7 +215,7 @@ fn set_up(c: Case, m: Memory, defects: u64) -> Case {
         script::SET_UP,
         0,
         0,
-        [number, 0, 65535, 65535, 0],
+        [number, 0, 65535, 65535, 0, 0],
         memory::new(m.settings),
     )
 }
@@ -229,7 +229,7 @@ fn tick(c: Case, m: Memory, defects: u64) -> Case {
         script::TICK,
         0,
         0,
-        [number, 0, 65535, 65535, 0],
+        [number, 0, 65535, 65535, 0, 0],
         ticked(m),
     )
 }
@@ -244,17 +244,17 @@ fn inspect(c: Case, m: Memory, defects: u64) -> Case {
         script::INSPECT,
         row(defects),
         0,
-        [number, 0, 65535, 65535, length],
+        [number, 0, 65535, 65535, 0, length],
         m,
     )
 }
 
-// The answer of an access with that number: row 1 is at its home, and moves to slot 0.
-fn access_answer(number: u64) -> [u64; 5] {
+// The answer of an access with that number: row 1 is at its home, with estimate A = 2, and moves to slot 0.
+fn access_answer(number: u64) -> [u64; 6] {
     if number == 0 {
-        return [0, 1, 0, 65535, 0];
+        return [0, 1, 0, 65535, 2, 0];
     }
-    [number, 0, 65535, 65535, 0]
+    [number, 0, 65535, 65535, 0, 0]
 }
 
 // Case: a read. 6: a buffer of 3 bytes.

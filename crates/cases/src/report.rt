@@ -11,7 +11,7 @@ pub struct Case {
     // there is a memory
     pub ready: bool,
     // what the last call answered, and its verb; 0 where none was made on this memory
-    pub answer: [u64; 5],
+    pub answer: [u64; 6],
     pub called: usize,
     // by part, whether a line has said what the call left there
     pub said: [bool; 8],

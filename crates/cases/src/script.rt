@@ -199,7 +199,7 @@ fn takes(verb: usize, count: usize) -> bool {
         12 => 2 <= count,
         14 | 17 => count == 5,
         16 => count == 6,
-        19 => (count == 0) | (count == 3),
+        19 => (count == 0) | (count == 3) | (count == 4),
         _ => true,
     }
 }

@@ -14,6 +14,7 @@ use Rattle.sizing.specs.Sums.{mostActivations}
 use Rattle.size_table.specs.Table.{sizes, gives, agrees}
 use Rattle.engine.specs.Calls.{setUp}
 use Rattle.page.specs.Ascii.{ascii}
+use Rattle.trace_steps.specs.Steps.{stepsFrom}
 use Rattle.replay.specs.Memory.{lent}
 use Rattle.replay.specs.Replay.{replayed}
 
@@ -24,6 +25,8 @@ pub data Case : Type 0 where
   activations : RefreshTimes → ℕ → Case
   -- a trace file and the lines that are printed for it
   trace : String → List String → Case
+  -- settings, the steps of a trace, and the estimate that each answers
+  estimates : Settings → List ℕ → List ℕ → Case
   -- settings and what set-up answers, on memory of the right lengths
   settings : Settings → ℕ → Case
 
@@ -44,6 +47,8 @@ unfoldable pub holds : Case → Bool
 holds (size pair) = agrees pair
 holds (activations times figure) = gives (mostActivations times) figure
 holds (trace text printed) = same (replayed (ascii text)) (lines printed)
+holds (estimates S steps told) =
+    same (map (λ e. e .answer .estimate) (stepsFrom S ((setUp S (lent S)) .state) steps)) told
 holds (settings S number) = eqb ((setUp S (lent S)) .number) number
 
 -- settings in a trace's order
@@ -108,6 +113,17 @@ emptyTraces =
     ∷ trace "6 0 0 0 0 0 0 0" ("0 1 - - -" ∷ [])
     ∷ []
 
+-- document 02, Ask 2: 'the estimate after the access, or 0 where only `spill` rose'; 0 too in a refusal and for a tick
+abbrev pub answeredEstimates : List Case
+answeredEstimates =
+    -- 01's session. At steps 5 and 12 only `spill` rises; 6 and 17 are refused; 7 and 13 are ticks
+    estimates (settingsOf 4 2 1 2 2 5)
+    (1 ∷ 1 ∷ 1 ∷ 1 ∷ 1 ∷ 1 ∷ 65535 ∷ 1 ∷ 1 ∷ 2 ∷ 2 ∷ 3 ∷ 65535 ∷ 3 ∷ 3 ∷ 2 ∷ 2 ∷ [])
+    (1 ∷ 2 ∷ 1 ∷ 2 ∷ 0 ∷ 0 ∷ 0 ∷ 1 ∷ 2 ∷ 1 ∷ 2 ∷ 0 ∷ 0 ∷ 1 ∷ 2 ∷ 1 ∷ 0 ∷ [])
+    -- one entry: row 2 takes it from row 0 with `spill` + 1, so that its estimate exceeds its accesses by `spill`
+    ∷ estimates (settingsOf 3 2 1 1 3 5) (0 ∷ 1 ∷ 2 ∷ 2 ∷ []) (1 ∷ 0 ∷ 2 ∷ 3 ∷ [])
+    ∷ []
+
 -- all of them hold
 abbrev pub AllHold : Type 0
-AllHold = every holds (table ++ emptyTraces) ≡ true
+AllHold = every holds (table ++ emptyTraces ++ answeredEstimates) ≡ true

@@ -9,7 +9,7 @@ use Rattle.geometry.specs.declared.Settings.{Settings}
 use Rattle.geometry.proofs.Cases.{split}
 use Rattle.engine.specs.declared.Move.the-variants.{Stayed}
 use Rattle.engine.specs.State.{State}
-use Rattle.engine.specs.Answer.{numberOf, placeOf, moveOf}
+use Rattle.engine.specs.Answer.{numberOf, placeOf, estimateIn, moveOf}
 use Rattle.engine.specs.Steps.{place}
 use Rattle.engine.specs.Calls.{accessed}
 
@@ -28,8 +28,9 @@ module _ (S : Settings) (σ : State) (r x : ℕ) (store filled buffer : List ℕ
     pub state-kept : (accessed S σ r x store filled buffer) .state ≡ σ
     pub buffer-kept : (accessed S σ r x store filled buffer) .buffer ≡ buffer
     pub place-0 : placeOf ((accessed S σ r x store filled buffer) .answer) ≡ 0
+    pub estimate-0 : estimateIn ((accessed S σ r x store filled buffer) .answer) ≡ 0
     pub move-none : moveOf ((accessed S σ r x store filled buffer) .answer) ≡ Stayed
 
   pub untouched : x ≢ 0 → Untouched
   unfolding accessed
-  untouched n = record { state-kept = rw (ne-eqb x 0 n); buffer-kept = rw (ne-eqb x 0 n); place-0 = rw (ne-eqb x 0 n); move-none = rw (ne-eqb x 0 n) }
+  untouched n = record { state-kept = rw (ne-eqb x 0 n); buffer-kept = rw (ne-eqb x 0 n); place-0 = rw (ne-eqb x 0 n); estimate-0 = rw (ne-eqb x 0 n); move-none = rw (ne-eqb x 0 n) }

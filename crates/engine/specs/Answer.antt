@@ -10,17 +10,22 @@ use Rattle.engine.specs.declared.Access.the-variants.{Refused, Done}
 -- the refusal's number, 0 where the access was accepted
 abbrev pub numberOf : Access → ℕ
 numberOf (Refused x) = x
-numberOf (Done p m) = 0
+numberOf (Done p e m) = 0
 
 -- 'An answer gives p, ..'; 'Beside the number a refusal holds nothing: each figure in it is 0, ..'
 abbrev pub placeOf : Access → ℕ
 placeOf (Refused x) = 0
-placeOf (Done p m) = p .0
+placeOf (Done p e m) = p .0
+
+-- 'the estimate after the access, or 0 where only `spill` rose' (document 02, Ask 2)
+abbrev pub estimateIn : Access → ℕ
+estimateIn (Refused x) = 0
+estimateIn (Done p e m) = e
 
 -- '.. and slot moved to and row sent home are none.'
 abbrev pub moveOf : Access → Move
 moveOf (Refused x) = Stayed
-moveOf (Done p m) = m
+moveOf (Done p e m) = m
 
 -- 'the slot moved to or none, and the row sent home or none', none being the mark 65535
 abbrev pub slotMovedTo : Move → ℕ

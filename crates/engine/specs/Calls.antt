@@ -13,7 +13,7 @@ use Rattle.row_layout.specs.Bytes.{rowBytes, written}
 use Rattle.engine.specs.declared.Access.{Access}
 use Rattle.engine.specs.declared.Access.the-variants.{Refused, Done}
 use Rattle.engine.specs.State.{State}
-use Rattle.engine.specs.Steps.{place, move, stateAfter}
+use Rattle.engine.specs.Steps.{place, tracked, move, stateAfter}
 use Rattle.engine.specs.Ladder.{setUpNumber, tickNumber, inspectNumber, accessNumber, readOff, writeOff}
 
 -- ---- set-up and tick answer a number
@@ -72,12 +72,13 @@ abbrev pub accessedOf : State → Access → List ℕ → Accessed
 accessedOf σ answer buffer = record { state = σ; answer = answer; buffer = buffer }
 
 -- an access of row r with that number: the effect where it is 0, and where it is not 'Control record and all lent memory
--- remain as before the call, the read buffer too'. store: the store after step 3; filled: the buffer if it is accepted
+-- remain as before the call, the read buffer too'. store: the store after step 3; filled: the buffer if it is accepted.
+-- 'The tracker shall give, and the access shall hand on, the estimate after the access' (document 02, Ask 2)
 unfoldable pub accessed : Settings → State → ℕ → ℕ → List ℕ → List ℕ → List ℕ → Accessed
 accessed S σ r number store filled buffer =
     record {
       state = cond (eqb number 0) (stateAfter S σ r store) σ;
-      answer = cond (eqb number 0) (Done (physical (place S σ r)) (move S σ r)) (Refused number);
+      answer = cond (eqb number 0) (Done (physical (place S σ r)) ((tracked S σ r) .estimate) (move S σ r)) (Refused number);
       buffer = cond (eqb number 0) filled buffer;
     }
 

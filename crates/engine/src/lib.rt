@@ -38,6 +38,10 @@ pub enum Move {
 pub enum Access {
     // the refusal's number
     Refused(u32),
-    // the place that the row had, and where it was left
-    Done { place: PhysicalRow, moved: Move },
+    // the place that the row had, the tracker's estimate after the access (0 for none), and where the row was left
+    Done {
+        place: PhysicalRow,
+        estimate: u32,
+        moved: Move,
+    },
 }

@@ -1,10 +1,16 @@
 -- What a C caller gets for an access: document 01's number and values for each case of the engine's answer.
 -- Assumes nothing.
 use Rattle.engine.specs.declared.Access.{Access}
-use Rattle.engine.specs.Answer.{numberOf, placeOf, moveOf, slotMovedTo, rowSentHome}
+use Rattle.engine.specs.Answer.{numberOf, placeOf, estimateIn, moveOf, slotMovedTo, rowSentHome}
 use Rattle.figures.specs.declared.Outcome.{Outcome}
 
 -- 'slot moved to and row sent home are none' is the mark 65535
 abbrev pub outcomeOf : Access → Outcome
 outcomeOf a =
-    record { number = numberOf a; slot = slotMovedTo (moveOf a); row = rowSentHome (moveOf a); place = placeOf a }
+    record {
+      number = numberOf a;
+      slot = slotMovedTo (moveOf a);
+      row = rowSentHome (moveOf a);
+      estimate = estimateIn a;
+      place = placeOf a;
+    }

@@ -19,6 +19,8 @@ pub struct Outcome {
     pub slot: u32,
     // the row sent home, 65535 for none
     pub row: u32,
+    // the tracker's estimate after the access, 0 for none and in a refusal
+    pub estimate: u32,
     // the place that the row had, 0 in a refusal
     pub place: u64,
 }
@@ -32,25 +34,33 @@ pub fn numbers_of(answer: Access) -> Outcome
             number: number,
             slot: 65535,
             row: 65535,
+            estimate: 0,
             place: 0,
         },
-        Access::Done { place, moved } => match moved {
+        Access::Done {
+            place,
+            estimate,
+            moved,
+        } => match moved {
             Move::Stayed => Outcome {
                 number: 0,
                 slot: 65535,
                 row: 65535,
+                estimate: estimate,
                 place: place.0,
             },
             Move::ToSlot(d) => Outcome {
                 number: 0,
                 slot: d.0 as u32,
                 row: 65535,
+                estimate: estimate,
                 place: place.0,
             },
             Move::OverSlot(d, v) => Outcome {
                 number: 0,
                 slot: d.0 as u32,
                 row: v.0 as u32,
+                estimate: estimate,
                 place: place.0,
             },
         },

@@ -13,6 +13,7 @@ use Rattle.history.specs.Tally as tally
 use Rattle.history.specs.Run.{Access, Call, inspect, Answer, Event, step, run}
 use Rattle.history.specs.Run.{eventOf, events, OfAccepted, reportOf}
 use Rattle.history.specs.Demand2.{Memory, remember}
+use Rattle.history.specs.Estimates.{Observed, observe}
 use Rattle.history.proofs.Groups.{not-accepted}
 
 -- an event that changes nothing: a call that was lent another length, or an inspect that tells no number
@@ -52,6 +53,11 @@ idle-not-9 (looks r z) n = omega arith
 pub idle-accepted : {e : Event} (P : Access → Answer → Type 0) → Idle e → OfAccepted P e
 idle-accepted {e} P (misfit z) = not-accepted P e (λ n. omega arith)
 idle-accepted P (looks r z) = tt
+
+-- an observer of places and estimates passes it by,
+pub idle-observe : {e : Event} (o : Observed) → Idle e → observe o e ≡ o
+idle-observe o (misfit z) = rw z
+idle-observe o (looks r z) = rw z
 
 -- and it writes no byte
 pub idle-memory : {e : Event} (mem : Memory) → Idle e → remember mem e ≡ mem

@@ -14,7 +14,7 @@ use Rattle.row_layout.specs.Bytes.{rowBytes, written}
 use Rattle.engine.specs.declared.Access.the-variants.{Done}
 use Rattle.engine.specs.State.{State}
 use Rattle.engine.specs.Answer.{numberOf}
-use Rattle.engine.specs.Steps.{place, move, stateAfter}
+use Rattle.engine.specs.Steps.{place, tracked, move, stateAfter}
 use Rattle.engine.specs.Ladder.{tickNumber, inspectNumber, accessNumber, readOff, writeOff}
 use Rattle.engine.specs.Calls as calls
 use Rattle.engine.proofs.Facts.{tick-not-9, inspect-not-9, fails-not}
@@ -110,7 +110,7 @@ module _ (S : Settings) (σ : State) where
       ofAccess
       (record {
         state = stateAfter S σ (rowOf a) (storeBy S σ a);
-        answer = Done (physical (place S σ (rowOf a))) (move S σ (rowOf a));
+        answer = Done (physical (place S σ (rowOf a))) ((tracked S σ (rowOf a)) .estimate) (move S σ (rowOf a));
         buffer = filledBy S σ a;
       })
   acceptedStep tick = record { state = calls.ticked S σ; answer = figureless 0 [] }

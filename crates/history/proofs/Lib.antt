@@ -8,6 +8,7 @@ pub mod Bytes
 pub mod Calls
 pub mod Chain
 pub mod History
+pub mod Estimates
 pub mod AfterTick
 pub mod Memory
 pub mod Refusals

@@ -7,7 +7,7 @@ use mathlib.Core.List.{List, [], _∷_}
 use Rattle.geometry.specs.declared.Settings.{Settings}
 use Rattle.geometry.specs.Entry.{empty}
 use Rattle.engine.specs.State.{State}
-use Rattle.engine.specs.Answer.{numberOf, placeOf, moveOf, slotMovedTo, rowSentHome}
+use Rattle.engine.specs.Answer.{numberOf, placeOf, estimateIn, moveOf, slotMovedTo, rowSentHome}
 use Rattle.engine.specs.Ladder.{inspectNumber}
 use Rattle.engine.specs.Calls as calls
 use Rattle.history.specs.Tally as tally
@@ -49,12 +49,15 @@ pub record Answer : Type 0 where
   pub slot : ℕ
   pub row : ℕ
   pub place : ℕ
+  -- the estimate after the access, 0 for none (document 02, Ask 2)
+  pub estimate : ℕ
   -- the read buffer afterwards
   pub buffer : List ℕ
 
 -- an answer that has no figure beside its number: 'each figure in it is 0, and slot moved to and row sent home are none'
 abbrev pub figureless : ℕ → List ℕ → Answer
-figureless number buffer = record { number = number; slot = empty; row = empty; place = 0; buffer = buffer }
+figureless number buffer =
+    record { number = number; slot = empty; row = empty; place = 0; estimate = 0; buffer = buffer }
 
 -- what a call leaves and answers
 pub record Step : Type 0 where
@@ -70,6 +73,7 @@ ofAccess c =
         slot = slotMovedTo (moveOf (c .answer));
         row = rowSentHome (moveOf (c .answer));
         place = placeOf (c .answer);
+        estimate = estimateIn (c .answer);
         buffer = c .buffer;
       };
     }

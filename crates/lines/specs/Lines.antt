@@ -28,7 +28,7 @@ accessLine place m = record { number = 0; place = Number place; slot = slotFigur
 abbrev pub bare : ℕ → Line
 bare number = record { number = number; place = Dash; slot = Dash; row = Dash }
 
--- the line of a read, by the cases of its answer
+-- the line of a read, by the cases of its answer. 'Trace lines keep their five fields' (document 02, Ask 2)
 abbrev pub lineOfAccess : Access → Line
 lineOfAccess (Refused number) = bare number
-lineOfAccess (Done p m) = accessLine (p .0) m
+lineOfAccess (Done p e m) = accessLine (p .0) m

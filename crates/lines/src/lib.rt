@@ -60,7 +60,7 @@ pub fn line_of_access(answer: Access) -> Line
 {
     match answer {
         Access::Refused(number) => bare(number),
-        Access::Done { place, moved } => Line {
+        Access::Done { place, moved, .. } => Line {
             number: 0,
             place: Figure::Number(place.0),
             slot: slot_figure(moved),

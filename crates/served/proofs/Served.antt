@@ -1,4 +1,4 @@
--- A transcript is a chain of `history`, so demands 2 and 3 hold of it. Assumes nothing.
+-- A transcript is a chain of `history`, so what is proved of chains holds of it. Assumes nothing.
 use Prim.Native.Nat.{ℕ}
 use mathlib.Core.Path.{_≡_, refl, sym, ap, _∙_, subst}
 use mathlib.Core.Logic.{_≢_, inl}
@@ -22,16 +22,18 @@ use Rattle.history.specs.Run as run
 use Rattle.history.specs.Demand2.{standing}
 use Rattle.history.specs.Demand3.{Kept}
 use Rattle.history.specs.Tally as tally
-use Rattle.history.specs.Run.{Each, OneOf}
+use Rattle.history.specs.Run.{OfAccepted, Each, OneOf}
+use Rattle.history.specs.Estimates.{unobserved, observed, Concludes}
 use Rattle.history.proofs.Invariant.{Inv}
 use Rattle.history.proofs.Groups.{ladder, step-number}
 use Rattle.history.proofs.Chain.{Chain, end, call, idle, Idle, misfit as lent-misfit, looks}
 use Rattle.history.proofs.History.{inv-set-up, inv-chain, kept, usual-number}
+use Rattle.history.proofs.Estimates.{concludes}
 use Rattle.history.proofs.Memory.{returned}
 use Rattle.history.specs.Demand1.{allowed, bufferOf}
 use Rattle.history.proofs.Refusals.{demand-1}
-use Rattle.served.specs.Transcript.{Exchange, read, write, tick, inspectNumber, inspectSpan, Promised, Logged, whole, misfit, Meets, Transcript, seen, seenOf}
-use Rattle.served.specs.Claims.{Proper, Demand1Served, Demand3Served, Answers3, NumberOccurs, Preserved, Demand2Served, BeginningsServed}
+use Rattle.served.specs.Transcript.{Exchange, read, write, tick, inspectNumber, inspectSpan, Promised, Logged, whole, misfit, Meets, Transcript, answerOf, seen, seenOf}
+use Rattle.served.specs.Claims.{Proper, Demand1Served, Demand3Served, Answers3, NumberOccurs, Preserved, Demand2Served, EstimatesServed, BeginningsServed}
 
 -- ---- one exchange
 
@@ -55,7 +57,7 @@ abbrev stepOf : State → run.Answer → run.Step
 stepOf σ answer = record { state = σ; answer = answer }
 
 access-told : (a : calls.Accessed) (after : State) (o : Outcome) (filled : List ℕ) → AccessPromise a after o filled
-    → stepOf after (record { number = o .number; slot = o .slot; row = o .row; place = o .place; buffer = filled }) ≡ run.ofAccess a
+    → stepOf after (answerOf o filled) ≡ run.ofAccess a
 access-told a after o filled p = rw (p .0, p .1, p .2)
 
 -- what the promise says: the step of the call, as `history` has it
@@ -232,11 +234,25 @@ module _ (S : Settings) (blank σ σ′ : State) (es : List Logged) (begun : Set
             (subst (λ (s : State). Inv S s tally.start tally.start) (sym (accepted-set-up S blank σ begun .1)) I);
       }
 
+  concluded : (after : State) (x : Exchange) → Tells x → Promised S σ′ x after
+      → OfAccepted (Concludes S (observed unobserved (map seenOf es)) after) (seen x)
+  concluded after x tells p =
+      subst (λ (s : run.Step). OfAccepted (Concludes S (observed unobserved (map seenOf es)) (s .state)) (run.eventOf ((seen x) .call) s))
+      (sym (told S σ′ after x tells p))
+      (concludes S blank zero whole-chain ((seen x) .call))
+
 pub demand-3-served : Demand3Served
 demand-3-served S blank σ σ′ es begun t = kept-served S blank σ σ′ es begun t
 
 pub demand-2-served : Demand2Served
 demand-2-served S blank σ σ′ es begun t = preserved S blank σ σ′ es begun t
+
+pub estimates-served : EstimatesServed
+estimates-served S blank σ between σ′ es x begun t =
+    exchange-cases (λ x. Promised S between x σ′ → OfAccepted (Concludes S (observed unobserved (map seenOf es)) σ′) (seen x))
+    (concluded S blank σ between es begun t σ′)
+    (λ row span p. tt)
+    x
 
 pub beginnings-served : BeginningsServed
 beginnings-served S σ σ′ [] ys t = (σ, (refl, t))

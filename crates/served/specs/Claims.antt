@@ -1,4 +1,5 @@
--- Demands 1, 2 and 3 of the C functions. Their proofs are `demand-1-served` to `demand-3-served` of proofs/Served.antt.
+-- Demands 1, 2 and 3 of the C functions, and what their estimates tell. The proofs are `demand-1-served` to
+-- `demand-3-served` and `estimates-served` of proofs/Served.antt.
 -- Assumes nothing.
 use Prim.Native.Nat.{ℕ, _<_}
 use mathlib.Core.Path.{_≡_}
@@ -10,10 +11,11 @@ use Rattle.engine.specs.State.{State}
 use Rattle.engine.specs.Tables.{Inverse}
 use Rattle.figures.specs.declared.Span.{Span}
 use Rattle.figures.specs.Promises.{SetUpPromise, InspectSpanPromise}
-use Rattle.history.specs.Run.{figureless, Each, OneOf}
+use Rattle.history.specs.Run.{figureless, OfAccepted, Each, OneOf}
 use Rattle.history.specs.Demand1.{allowed, bufferOf}
 use Rattle.history.specs.Demand2.{Memory, standing, remembered, IsRow, RowsReturned}
 use Rattle.history.specs.Demand3.{Kept}
+use Rattle.history.specs.Estimates.{unobserved, observed, Concludes}
 use Rattle.served.specs.Transcript.{Exchange, read, write, tick, inspectNumber, inspectSpan}
 use Rattle.served.specs.Transcript.{Promised, Logged, whole, misfit, Transcript, seen, seenOf}
 
@@ -62,6 +64,14 @@ pub record Preserved (S : Settings) (mem : Memory) (es : List Logged) (σ′ : S
 abbrev pub Demand2Served : Type 0
 Demand2Served = (S : Settings) (blank σ σ′ : State) (es : List Logged) → SetUpPromise S blank σ 0 → Transcript S σ es σ′
     → Preserved S (standing S blank) es σ′
+
+-- Document 02, Ask 2. For all settings and all lent memory: if `aqua_set_up` answered 0, then any access that is accepted
+-- after any transcript from there tells what `Conclusions` of crate `history` says. (One that is lent another length is
+-- not accepted.)
+abbrev pub EstimatesServed : Type 0
+EstimatesServed = (S : Settings) (blank σ between σ′ : State) (es : List Logged) (x : Exchange)
+    → SetUpPromise S blank σ 0 → Transcript S σ es between → Promised S between x σ′
+    → OfAccepted (Concludes S (observed unobserved (map seenOf es)) σ′) (seen x)
 
 -- Every beginning of a transcript is a transcript, so that both hold after every call of it.
 abbrev pub BeginningsServed : Type 0

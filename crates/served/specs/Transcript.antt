@@ -14,7 +14,7 @@ use Rattle.history.specs.Run as run
 
 -- A call of a C function: its arguments, and what it answers.
 pub data Exchange : Type 0 where
-  -- `aqua_read`: the row and the buffer before; number, slot, row and place answered, and the buffer after
+  -- `aqua_read`: the row and the buffer before; the numbers answered, and the buffer after
   read : (row : ℕ) (buffer : List ℕ) (outcome : Outcome) (filled : List ℕ) → Exchange
   -- `aqua_write`
   write : (row column : ℕ) (bytes : List ℕ) (outcome : Outcome) → Exchange
@@ -54,17 +54,21 @@ Transcript S σ (e ∷ es) σ′ = (between : State) × (Meets S σ e between ×
 
 -- ---- what a caller sees, in the words of `history`: the tally is fed `reportOf` of it, which leaves out all memory
 
+-- the numbers of an access, and the read buffer after it
+abbrev pub answerOf : Outcome → List ℕ → run.Answer
+answerOf o filled =
+    record {
+      number = o .number;
+      slot = o .slot;
+      row = o .row;
+      place = o .place;
+      estimate = o .estimate;
+      buffer = filled;
+    }
+
 abbrev pub seen : Exchange → run.Event
-seen (read row buffer o filled) =
-    record {
-      call = run.access (run.read row buffer);
-      answer = record { number = o .number; slot = o .slot; row = o .row; place = o .place; buffer = filled };
-    }
-seen (write row column bytes o) =
-    record {
-      call = run.access (run.write row column bytes);
-      answer = record { number = o .number; slot = o .slot; row = o .row; place = o .place; buffer = [] };
-    }
+seen (read row buffer o filled) = record { call = run.access (run.read row buffer); answer = answerOf o filled }
+seen (write row column bytes o) = record { call = run.access (run.write row column bytes); answer = answerOf o [] }
 seen (tick number) = record { call = run.tick; answer = run.figureless number [] }
 seen (inspectNumber row number) = record { call = run.inspect row; answer = run.figureless number [] }
 -- a span comes with no number

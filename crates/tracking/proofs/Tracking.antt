@@ -34,6 +34,7 @@ pub record Tracking (a p : ℕ) (rows counts : List ℕ) (spill : ℕ) (t : Trac
   pub counts-long : length (t .counts) ≡ length counts
   pub summed : total (t .counts) + t .spill ≡ suc (total counts + spill)
   pub low : (i : ℕ) → i < length counts → t .spill ≤ getD (t .counts) i 0
+  pub spill-grows : spill ≤ t .spill
   pub distinct : Distinct (t .rows)
   pub same : estimateOf (t .rows) (t .counts) (t .spill) p ≡ suc (estimateOf rows counts spill p)
   pub other : (q : ℕ) → q ≢ p → q ≢ empty → (estimateOf (t .rows) (t .counts) (t .spill) q ≡ estimateOf rows counts spill q)
@@ -53,6 +54,7 @@ module _ (a p : ℕ) (rows counts : List ℕ) (spill : ℕ) (pos : zero < a)
         counts-long = refl;
         summed = omega arith;
         low = λ i b. let n : getD counts i 0 ≢ spill = index-none spill counts 0 none i b in omega (arith, low i b);
+        spill-grows = omega arith;
         distinct = dis;
         same = here (suc spill) ∙ ap suc (sym (here spill));
         other = λ q n r. elim (lt? (indexOf q rows) (length counts)) [
@@ -91,6 +93,7 @@ module _ (a p : ℕ) (rows counts : List ℕ) (spill : ℕ) (pos : zero < a)
           | inl e ↦ rw (e, now0) (omega (arith, low (indexOf p rows) hc))
           | inr n ↦ rw (getD-set-other counts i j (suc c) 0 n) (low j b)
         ];
+        spill-grows = omega arith;
         distinct = dis;
         same = now ∙ ap suc (sym was);
         other = λ q n r. inl (getD-set-other counts i (indexOf q rows) (suc c) spill (index-apart q p rows n h));
@@ -159,6 +162,7 @@ module _ (a p : ℕ) (rows counts : List ℕ) (spill : ℕ) (pos : zero < a)
             | inl e ↦ rw (e, now 0) (omega arith)
             | inr n ↦ rw (getD-set-other counts j i (suc spill) 0 n) (low i b)
           ];
+          spill-grows = omega arith;
           distinct = fresh;
           same = here ∙ ap suc (sym (List·getD-eq-default counts spill (omega arith)));
           other = λ q n r. inl (elim (eq? (getD rows j 0) q) [

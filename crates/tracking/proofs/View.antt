@@ -54,6 +54,13 @@ pub record Tracks (a k p : ℕ) (rows counts : List ℕ) (spill acts : ℕ) (t :
   pub after : Counting k (t .rows) (t .counts) (t .spill) (suc acts)
   pub same : estimateOf (t .rows) (t .counts) (t .spill) p ≡ suc (estimateOf rows counts spill p)
   pub other : (q : ℕ) → q ≢ p → q ≢ empty → Grew a (estimateOf rows counts spill q) (estimateOf (t .rows) (t .counts) (t .spill) q)
+  -- which is what the place had, or `spill`; and `spill` never falls
+  pub drifts : (q : ℕ) → q ≢ p → q ≢ empty → (estimateOf (t .rows) (t .counts) (t .spill) q ≡ estimateOf rows counts spill q)
+      ⊎ (estimateOf (t .rows) (t .counts) (t .spill) q ≡ t .spill)
+  pub spill-grows : spill ≤ t .spill
+  -- what is answered: the place's estimate, or 0 where that is `spill`
+  pub given : (t .estimate ≡ estimateOf (t .rows) (t .counts) (t .spill) p)
+      ⊎ ((t .estimate ≡ 0) × (estimateOf (t .rows) (t .counts) (t .spill) p ≡ t .spill))
   -- where the row is not moved, its place's estimate is no multiple of the threshold
   pub rests : isDue a (t .estimate) ≡ false → (m : ℕ) → 0 < m → estimateOf (t .rows) (t .counts) (t .spill) p ≢ m * a
   pub quotients : quotients a (t .counts) ≡ quotients a counts + one-if (isDue a (t .estimate))
@@ -80,6 +87,9 @@ module _ (a k l p : ℕ) (rows counts : List ℕ) (spill acts : ℕ) (pos : 0 < 
         after = after;
         same = T .same;
         other = λ q n e. elim (T .other q n e) [ inl s ↦ (omega arith, inl s) | inr s ↦ (omega (arith, s .0, s .1), inr (omega (arith, s .0))) ];
+        drifts = λ q n e. elim (T .other q n e) [ inl s ↦ inl s | inr s ↦ inr (s .0) ];
+        spill-grows = T .spill-grows;
+        given = T .got;
         rests = λ d m some e. elim (T .got) [
           | inl g ↦ not-multiple a m pos some (rw (g ∙ e) at d)
           | inr g ↦ omega (arith, mul-le-mul-right {m = 1} a some, g .1)

@@ -8,6 +8,7 @@ struct Outcome {
     number: u32,
     slot: u32,
     row: u32,
+    estimate: u32,
     place: u64,
 }
 
@@ -92,7 +93,7 @@ pub fn lend(memory: &mut Memory) -> Lent<'_> {
 
 #[inline]
 fn answer(o: Outcome) -> Answer {
-    Answer { place: o.place, slot: o.slot, row: o.row, ..Answer::bare(o.number) }
+    Answer { place: o.place, estimate: o.estimate, slot: o.slot, row: o.row, ..Answer::bare(o.number) }
 }
 
 #[rustfmt::skip]

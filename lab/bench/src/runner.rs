@@ -68,7 +68,7 @@ impl Answers {
     fn note(&mut self, a: &Answer, byte: u8) {
         self.numbers |= a.number;
         self.sum = self.sum.rotate_left(7) ^ a.place ^ u64::from(a.slot) << 20 ^ u64::from(a.row) << 40;
-        self.sum = self.sum.wrapping_add(u64::from(byte));
+        self.sum = self.sum.wrapping_add(u64::from(byte) ^ u64::from(a.estimate) << 8);
     }
 }
 

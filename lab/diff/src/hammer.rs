@@ -54,32 +54,32 @@ fn settings(n: u32, q: u32, k: u32, a: u32, l: u32) -> Settings {
     Settings { n, q, w: 1, k, a, l }
 }
 
-/// Document 01's trace, line by line: number, place, slot moved to, row sent home.
+/// Document 01's trace, step by step: number, place, estimate (worked out by hand), slot moved to, row sent home.
 pub fn printed_trace(counts: &mut Counts) -> Result<(), String> {
     let steps = [1, 1, 1, 1, 1, 1, TICK, 1, 1, 2, 2, 3, TICK, 3, 3, 2, 2];
     let printed = [
-        (0, 1, NONE, NONE),
-        (0, 1, 0, NONE),
-        (0, 4, NONE, NONE),
-        (0, 4, 1, NONE),
-        (0, 5, NONE, NONE),
-        (8, 0, NONE, NONE),
-        (0, 0, NONE, NONE),
-        (0, 5, NONE, NONE),
-        (0, 5, 0, NONE),
-        (0, 2, NONE, NONE),
-        (0, 2, 1, NONE),
-        (0, 3, NONE, NONE),
-        (0, 0, NONE, NONE),
-        (0, 3, NONE, NONE),
-        (0, 3, 0, 1),
-        (0, 5, NONE, NONE),
-        (9, 0, NONE, NONE),
+        (0, 1, 1, NONE, NONE),
+        (0, 1, 2, 0, NONE),
+        (0, 4, 1, NONE, NONE),
+        (0, 4, 2, 1, NONE),
+        (0, 5, 0, NONE, NONE),
+        (8, 0, 0, NONE, NONE),
+        (0, 0, 0, NONE, NONE),
+        (0, 5, 1, NONE, NONE),
+        (0, 5, 2, 0, NONE),
+        (0, 2, 1, NONE, NONE),
+        (0, 2, 2, 1, NONE),
+        (0, 3, 0, NONE, NONE),
+        (0, 0, 0, NONE, NONE),
+        (0, 3, 1, NONE, NONE),
+        (0, 3, 2, 0, 1),
+        (0, 5, 1, NONE, NONE),
+        (9, 0, 0, NONE, NONE),
     ];
     let mut stream = Stream::new(settings(4, 2, 2, 2, 5), counts)?;
     for (at, (step, line)) in steps.into_iter().zip(printed).enumerate() {
         let got = stream.step(step)?;
-        if (got.number, got.place, got.slot, got.row) != line {
+        if (got.number, got.place, got.estimate, got.slot, got.row) != line {
             return Err(format!("document 01's trace, step {}: {got:?}, printed {line:?}", at + 1));
         }
     }

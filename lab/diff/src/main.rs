@@ -1,6 +1,7 @@
 //! Compares the library behind include/aqua.h with an engine written a second time from document 01. The first argument
 //! overrides the seed. Exit status 0 only if everything agrees and every planted fault is noticed.
 
+mod estimates;
 mod garbage;
 mod hammer;
 mod huge;

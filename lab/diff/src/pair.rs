@@ -90,13 +90,17 @@ pub struct Pair {
     pub buffer: Vec<u8>,
 }
 
-fn access(served: &Result<Served, Refusal>) -> (Answer, Option<Refusal>) {
+fn access(model: &Model, row: u32, served: &Result<Served, Refusal>) -> (Answer, Option<Refusal>) {
     let slot_or_row = |n: Option<usize>| n.map_or(NONE, |n| n as u32);
     match served {
-        Err(r) => (Answer::bare(r.number()), Some(*r)),
+        Err(r) => {
+            let estimate = model.refused_estimate(row, *r).unwrap_or(0);
+            (Answer { estimate, ..Answer::bare(r.number()) }, Some(*r))
+        }
         Ok(s) => {
             let (slot, row) = (slot_or_row(s.moved_to), slot_or_row(s.sent_home));
-            (Answer { place: s.place as u64, slot, row, ..Answer::bare(0) }, None)
+            let (place, estimate) = (s.place as u64, s.estimate.unwrap_or(0));
+            (Answer { place, estimate, slot, row, ..Answer::bare(0) }, None)
         }
     }
 }
@@ -128,10 +132,11 @@ impl Pair {
                 self.buffer = blank(*length);
                 expected_buffer = blank(*length);
                 let expected = self.model.read(s, *row, &mut expected_buffer);
-                (lent.read(s, *row, &mut self.buffer), access(&expected))
+                (lent.read(s, *row, &mut self.buffer), access(&self.model, *row, &expected))
             }
             Call::Write { row, column, bytes } => {
-                (lent.write(s, *row, *column, bytes), access(&self.model.write(s, *row, *column, bytes)))
+                let expected = self.model.write(s, *row, *column, bytes);
+                (lent.write(s, *row, *column, bytes), access(&self.model, *row, &expected))
             }
         };
         counts.0[line(refusal)][call.kind()] += 1;

@@ -1,6 +1,7 @@
 //! Sound histories: set-up, then mixtures of calls in hostile patterns. Beside the comparison with the model, a watcher
-//! from outside keeps the tally of demand 3 and the bytes that each visible row must hold.
+//! from outside keeps the tally of demand 3, the bytes that each visible row must hold, and what estimates tell.
 
+use crate::estimates::Estimates;
 use crate::pair::{Counts, Pair};
 use crate::tally::{self, Figures, Tally};
 use model::fault::Fault;
@@ -19,16 +20,18 @@ pub struct Seen {
     pub store_most: usize,
 }
 
-/// The watcher: it sees calls and answers only.
+/// The watcher: it sees calls and answers only, and `spill`.
 pub struct Watcher {
     pub tally: Tally,
+    estimates: Estimates,
     shadow: Vec<u8>,
 }
 
 impl Watcher {
     /// After an accepted set-up each row is at home and holds what its home holds.
     pub fn new(s: &Settings, store: &[u8]) -> Watcher {
-        Watcher { tally: Tally::new(s), shadow: store[..s.n as usize * s.w as usize].to_vec() }
+        let shadow = store[..s.n as usize * s.w as usize].to_vec();
+        Watcher { tally: Tally::new(s), estimates: Estimates::new(s), shadow }
     }
 
     /// Takes in a call; gives the figures of the epoch where one ended.
@@ -58,6 +61,7 @@ impl Watcher {
                 }
             }
         }
+        self.estimates.feed(s, call, answer, pair.library.control.spill)?;
         let figures = self.tally.feed(call, answer);
         if let Some(figures) = &figures {
             tally::judge(s, figures)?;

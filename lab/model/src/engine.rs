@@ -40,6 +40,8 @@ impl Refusal {
 /// The answer of an accepted read or write.
 pub struct Served {
     pub place: usize,
+    /// The tracker's estimate after the access; none where only `spill` rose.
+    pub estimate: Option<u32>,
     pub moved_to: Option<usize>,
     pub sent_home: Option<usize>,
 }
@@ -49,6 +51,15 @@ enum Sight {
     Known { entry: usize, estimate: u32 },
     Taken { entry: usize, estimate: u32 },
     Unseen,
+}
+
+impl Sight {
+    fn estimate(&self) -> Option<u32> {
+        match self {
+            Sight::Known { estimate, .. } | Sight::Taken { estimate, .. } => Some(*estimate),
+            Sight::Unseen => None,
+        }
+    }
 }
 
 /// A quarantine that is due.
@@ -200,12 +211,9 @@ impl Model {
         }
         let place = left_slot.map_or(row, |slot| s.n as usize + slot);
         let sight = self.sight(if self.planted(Fault::TracksVisibleRow) { row } else { place });
-        let due = match sight {
-            Sight::Known { estimate, .. } | Sight::Taken { estimate, .. } => {
-                estimate % s.a == 0 || (self.planted(Fault::QuarantineFromThresholdOn) && estimate >= s.a)
-            }
-            Sight::Unseen => false,
-        };
+        let due = sight.estimate().is_some_and(|estimate| {
+            estimate % s.a == 0 || (self.planted(Fault::QuarantineFromThresholdOn) && estimate >= s.a)
+        });
         let journey = if due { Some(self.judge_journey(s, row, left_slot)?) } else { None };
         Ok(Plan { place, left_slot, sight, journey })
     }
@@ -222,6 +230,7 @@ impl Model {
     fn carry_out(&mut self, s: &Settings, row: usize, plan: Plan, touch: impl FnOnce(&mut [u8])) -> Served {
         let Plan { place, left_slot, sight, journey } = plan;
         let seen_as = if self.planted(Fault::TracksVisibleRow) { row } else { place };
+        let estimate = sight.estimate();
         match sight {
             Sight::Known { entry, estimate } => self.memory.counts[entry] = estimate,
             Sight::Taken { entry, estimate } => {
@@ -233,7 +242,7 @@ impl Model {
         self.memory.control.acts += 1;
         let before = self.line(s, place).to_vec();
         touch(self.line(s, place));
-        let mut served = Served { place, moved_to: None, sent_home: None };
+        let mut served = Served { place, estimate: self.told(estimate), moved_to: None, sent_home: None };
         if let Some(Journey { to, rise, evicts }) = journey {
             let slot_row = s.n as usize + to;
             if let Some(guest) = evicts {
@@ -260,6 +269,22 @@ impl Model {
             served.sent_home = evicts;
         }
         served
+    }
+
+    /// The estimate that is handed on; the tracker is as the access leaves it.
+    fn told(&self, estimate: Option<u32>) -> Option<u32> {
+        match self.fault {
+            Fault::EstimateBeforeAccess => estimate.map(|count| count.wrapping_sub(1)),
+            Fault::SpillForNoEstimate => estimate.or(Some(self.memory.control.spill)),
+            Fault::EstimateOfAnotherEntry => estimate.and(self.memory.counts.first().copied()),
+            _ => estimate,
+        }
+    }
+
+    /// The estimate in the answer of a refused access: none.
+    pub fn refused_estimate(&self, row: u32, refusal: Refusal) -> Option<u32> {
+        let late = matches!(refusal, Refusal::Epoch | Refusal::Spent);
+        (late && self.planted(Fault::RefusalHasEstimate)).then(|| self.sight(row as usize).estimate())?
     }
 
     fn access(&mut self, s: &Settings, row: u32, fits: bool, touch: impl FnOnce(&mut [u8])) -> Result<Served, Refusal> {
@@ -306,7 +331,7 @@ impl Model {
         let fits = end.is_some_and(|end| end as u64 <= u64::from(s.w));
         if bytes.is_empty() && self.planted(Fault::EmptyWriteIsNothing) {
             let plan = self.plan(s, row, fits)?;
-            return Ok(Served { place: plan.place, moved_to: None, sent_home: None });
+            return Ok(Served { place: plan.place, estimate: plan.sight.estimate(), moved_to: None, sent_home: None });
         }
         self.access(s, row, fits, |line| line.iter_mut().skip(column).zip(bytes).for_each(|(to, from)| *to = *from))
     }

@@ -32,9 +32,13 @@ pub enum Fault {
     SetUpClearsStore,
     SpanOfTheHome,
     RefusedSpanHasLength,
+    EstimateBeforeAccess,
+    SpillForNoEstimate,
+    EstimateOfAnotherEntry,
+    RefusalHasEstimate,
 }
 
-pub const FAULTS: [Fault; 28] = [
+pub const FAULTS: [Fault; 32] = [
     Fault::EntryStartsAtOne,
     Fault::OldReverseKept,
     Fault::SentHomeForwardKept,
@@ -63,4 +67,8 @@ pub const FAULTS: [Fault; 28] = [
     Fault::SetUpClearsStore,
     Fault::SpanOfTheHome,
     Fault::RefusedSpanHasLength,
+    Fault::EstimateBeforeAccess,
+    Fault::SpillForNoEstimate,
+    Fault::EstimateOfAnotherEntry,
+    Fault::RefusalHasEstimate,
 ];

@@ -120,6 +120,8 @@ impl Call {
 pub struct Answer {
     pub number: u32,
     pub place: u64,
+    /// The tracker's estimate after the access.
+    pub estimate: u32,
     pub slot: u32,
     pub row: u32,
     pub start: usize,
@@ -131,6 +133,6 @@ pub const NONE: u32 = 65535;
 impl Answer {
     #[inline]
     pub fn bare(number: u32) -> Answer {
-        Answer { number, place: 0, slot: NONE, row: NONE, start: 0, length: 0 }
+        Answer { number, place: 0, estimate: 0, slot: NONE, row: NONE, start: 0, length: 0 }
     }
 }

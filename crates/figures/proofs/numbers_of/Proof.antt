@@ -15,17 +15,17 @@ enum-told c = search needs
 enum-known-moved : tie.Need-enum-known-moved
 enum-known-moved c = search needs
 
-cast-t10 : tie.Need-cast-t10
-cast-t10 c = search needs
+cast-t11 : tie.Need-cast-t11
+cast-t11 c = search needs
 
 enum-known-moved-2 : tie.Need-enum-known-moved-2
 enum-known-moved-2 c = search needs
 
-cast-t11 : tie.Need-cast-t11
-cast-t11 c = search needs
-
 cast-t12 : tie.Need-cast-t12
 cast-t12 c = search needs
+
+cast-t13 : tie.Need-cast-t13
+cast-t13 c = search needs
 
 returns : tie.Need-returns
 returns c = rw (c .before .answer .given .1)
@@ -47,10 +47,10 @@ numbers-of-spec =
     enum-known-answer-2
     enum-told
     enum-known-moved
-    cast-t10
-    enum-known-moved-2
     cast-t11
+    enum-known-moved-2
     cast-t12
+    cast-t13
     returns
     returns-2
     returns-3

@@ -130,10 +130,11 @@ pub fn access<S: Scan>(s: &Settings, m: &mut Lent, row: u32, buffer: &mut [u8]) 
     }
     let place = slot.map_or(row, |slot| n + slot);
     let way = choose::<S>(m, place);
-    let due = match way {
-        Way::Raise(_, estimate) | Way::Take(_, estimate) => estimate % s.a == 0,
-        Way::Spill => false,
+    let estimate = match way {
+        Way::Raise(_, count) | Way::Take(_, count) => count,
+        Way::Spill => 0,
     };
+    let due = estimate != 0 && estimate % s.a == 0;
     let moved = if due { Some(plan_move(s, m, slot)?) } else { None };
     buffer.copy_from_slice(&m.store[place * w..(place + 1) * w]);
     match way {
@@ -147,7 +148,7 @@ pub fn access<S: Scan>(s: &Settings, m: &mut Lent, row: u32, buffer: &mut [u8]) 
     accept(s, m, row, slot, place, &moved);
     let slot = moved.as_ref().map_or(NONE, |moved| moved.to as u32);
     let sent_home = moved.and_then(|moved| moved.sent_home).map_or(NONE, |row| row as u32);
-    Ok(Answer { place: place as u64, slot, row: sent_home, ..Answer::bare(0) })
+    Ok(Answer { place: place as u64, estimate, slot, row: sent_home, ..Answer::bare(0) })
 }
 
 #[inline(always)]

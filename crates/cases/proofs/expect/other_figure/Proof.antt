@@ -5,10 +5,10 @@ use Rattle.cases.proofs.expect.other_figure.Statement.{statement}
 use Rattle.cases.proofs.expect.other_figure.Tie as tie
 
 abbrev Inv-loop : tie.InvT-loop
-Inv-loop a b i₀ i = i ≤ 5
+Inv-loop a b i₀ i = i ≤ 6
 
 abbrev μ-loop : tie.MeasureT-loop
-μ-loop a b i₀ i = 5 - i
+μ-loop a b i₀ i = 6 - i
 
 loop-holds : tie.Need-loop-holds Inv-loop μ-loop
 loop-holds c = search needs

@@ -1,0 +1,180 @@
+-- What an estimate tells of its place, after every list of calls. Assumes nothing.
+use Prim.Native.Nat.{ℕ, suc, _+_, _%_, _<_, _≤_}
+use native.Mathlib.Omega.{arith}
+use mathlib.Core.Path.{_≡_, refl, sym, subst}
+use mathlib.Core.Logic.{_⊎_, inl, inr, _≢_}
+use mathlib.Core.Bool.{Bool, true, false, cond, not, _&&_, true≢false}
+use mathlib.Core.List.{List}
+use lib.Dec.{eqb}
+use borrow.Author.Tests.{eq-eqb, ne-eqb, eqb-true, eqb-false, not-true}
+use Rattle.geometry.specs.declared.Settings.{Settings}
+use Rattle.geometry.specs.Entry.{empty}
+use Rattle.geometry.proofs.Cases.{eq?}
+use Rattle.geometry.proofs.Tests.{and-left, and-right}
+use Rattle.conditions.proofs.Facts.{limit-fact}
+use Rattle.tracking.specs.Track.{isDue}
+use Rattle.tracking.proofs.View.{Tracks, estimate-new, spill-below}
+use Rattle.engine.specs.declared.Move.{Move}
+use Rattle.engine.specs.State.{State, trackerAt}
+use Rattle.engine.specs.Answer.{slotMovedTo}
+use Rattle.engine.specs.Steps.{place, tracked, moves, destination, move, settled}
+use Rattle.engine.specs.Calls as calls
+use Rattle.engine.proofs.Facts.{accepted}
+use Rattle.engine.proofs.Pointers.{marks-none, place-in}
+use Rattle.engine.proofs.Moves.{Plan, rests, fills, evicts, plan, destination-in}
+use Rattle.history.specs.Tally as tally
+use Rattle.history.specs.Tally.{hit}
+use Rattle.history.specs.Run.{Call, access, rowOf, Answer, Event, step, eventOf, OfAccepted}
+use Rattle.history.specs.Estimates.{Observed, unobserved, observeAccess, observe, observed, Conclusions, Concludes, Estimates}
+use Rattle.history.proofs.Groups.{acceptedStep, refusedStep, ladder, storeBy, not-accepted, step-cases}
+use Rattle.history.proofs.Invariant.{Inv, estimate}
+use Rattle.history.proofs.Openings.{hit-same, hit-other}
+use Rattle.history.proofs.Access.{T}
+use Rattle.history.proofs.Calls.{carried-on}
+use Rattle.history.proofs.Chain.{Chain, end, call, idle, chain-of, idle-observe}
+use Rattle.history.proofs.History.{set-up-state, inv-set-up, inv-chain}
+
+-- what was observed of a place against the tracker's estimate of it
+pub record Counted (estimate spill accesses latest : ℕ) : Type 0 where
+  pub most : accesses ≤ estimate
+  pub least : estimate ≤ accesses + spill
+  pub last : latest ≤ estimate
+
+-- of every place
+abbrev pub Watched : Settings → State → Observed → Type 0
+Watched S σ o = (p : ℕ) → p ≢ empty
+    → Counted (estimate S σ p) ((trackerAt S σ p) .spill) (o .accesses p) (o .latest p)
+
+-- ---- a new epoch
+
+watched-new : (S : Settings) (σ : State) → Watched S (calls.ticked S σ) unobserved
+watched-new S σ p n =
+    rw (estimate-new (S .k) p) (record { most = omega arith; least = omega arith; last = omega arith })
+
+-- ---- an accepted access
+
+cond-most : {x y m : ℕ} (b : Bool) → x ≤ m → y ≤ m → cond b x y ≤ m
+cond-most true h k = h
+cond-most false h k = k
+
+-- an estimate calls for a move, or it does not
+
+due : (a e : ℕ) → isDue a e ≡ true → (e ≢ 0) × (e % a ≡ 0)
+due a e d = (
+  eqb-false e 0 (not-true (eqb e 0) (and-left (not (eqb e 0)) (eqb (e % a) 0) d)),
+  eqb-true (e % a) 0 (and-right (not (eqb e 0)) (eqb (e % a) 0) d),
+)
+
+not-due : (a e : ℕ) → isDue a e ≡ false → e ≢ 0 → e % a ≢ 0
+not-due a e d n z = true≢false (rw (ne-eqb e 0 n, eq-eqb (e % a) 0 z) at d)
+
+module _ (S : Settings) (σ : State) (τ₀ τ : tally.Tally) (I : Inv S σ τ₀ τ) (o : Observed) (W : Watched S σ o) where
+  module _ (r : ℕ) (row-in : r < S .n) (more : trackerAt S σ (place S σ r) .acts < S .l) (store : List ℕ) where
+    abbrev p : ℕ
+    p = place S σ r
+
+    abbrev given : ℕ
+    given = (tracked S σ r) .estimate
+
+    real : p ≢ empty
+    real = marks-none S (I .sound .ranges) p (place-in S σ (I .sound) r row-in)
+
+    K : Tracks (S .a) (S .k) p (σ .rows) (σ .counts) (σ .control .spill) (σ .control .acts) (tracked S σ r)
+    K = T S σ τ₀ τ I r row-in more
+
+    -- the estimate that is answered is at most the place's
+    given-most : given ≤ suc (estimate S σ p)
+    given-most = elim (K .given) [ inl g ↦ omega (arith, g, K .same) | inr g ↦ omega (arith, g .0) ]
+
+    pub watched-access : (m : Move) → Watched S (settled S σ r store m) (observeAccess o p given)
+    watched-access m x n =
+        elim (eq? x p) [
+          | inl e ↦
+              let was = W p real in
+              let one : hit p p ≡ 1 = hit-same p p refl in
+              subst (λ (y : ℕ). Counted (estimate S (settled S σ r store m) y) ((tracked S σ r) .spill) (o .accesses y + (hit p y + 0)) ((observeAccess o p given) .latest y)) (sym e)
+              (record {
+                most = omega (arith, was .most, K .same);
+                least = omega (arith, was .least, K .same, K .spill-grows);
+                last = cond-most (eqb p p && not (eqb given 0)) (omega (arith, given-most, K .same)) (omega (arith, was .last, K .same));
+              })
+          | inr k ↦
+              let was = W x n in
+              let none : hit p x ≡ 0 = hit-other p x k in
+              let up = K .other x k n .0 in
+              rw (ne-eqb x p k) (record {
+                most = omega (arith, was .most);
+                least = elim (K .drifts x k n) [ inl g ↦ omega (arith, was .least, g, K .spill-grows) | inr g ↦ omega (arith, g) ];
+                last = omega (arith, was .last);
+              })
+        ]
+
+    -- whether a slot is answered tells whether the row was due
+    slot-real : (d : ℕ) → d < S .q → d ≢ empty
+    slot-real d b = marks-none S (I .sound .ranges) d (omega arith)
+
+    slot-told : (m : Move) → Plan S σ r m → ((slotMovedTo m ≡ empty) × (moves S σ r ≡ false)) ⊎ ((slotMovedTo m ≢ empty) × (moves S σ r ≡ true))
+    slot-told m (rests e) = inl (refl, e)
+    slot-told m (fills e vacant) = inr (slot-real (destination S σ r) (destination-in S σ r (I .head-in)), e)
+    slot-told m (evicts e held) = inr (slot-real (destination S σ r) (destination-in S σ r (I .head-in)), e)
+
+    pub concluded : (answer : Answer) → answer .slot ≡ slotMovedTo (move S σ r) → answer .estimate ≡ given
+        → Conclusions S (o .latest p) (suc (o .accesses p)) ((tracked S σ r) .spill) answer
+    concluded answer at is =
+        let was = W p real in
+        let told = slot-told (move S σ r) (plan S σ r) in
+        rw (at, is) (record {
+          moved = λ n. elim told [ inl t ↦ absurd (n (t .0)) | inr t ↦ due (S .a) given (t .1) ];
+          stayed = λ z. elim told [ inl t ↦ not-due (S .a) given (t .1) | inr t ↦ absurd (t .0 z) ];
+          rises = λ n. elim (K .given) [ inl g ↦ omega (arith, was .last, K .same, g) | inr g ↦ absurd (n (g .0)) ];
+          most = λ n. elim (K .given) [ inl g ↦ omega (arith, was .most, K .same, g) | inr g ↦ absurd (n (g .0)) ];
+          least = omega (arith, given-most, was .least, K .spill-grows);
+          few = λ z. elim (K .given) [ inl g ↦ omega (arith, K .same, g) | inr g ↦ omega (arith, was .most, K .same, g .1) ];
+          below = spill-below (K .after) (S .a) (S .l) more (limit-fact S (I .limit));
+        })
+
+  -- ---- one call
+
+  watched-step : (c : Call) → Watched S ((step S σ c) .state) (observe o (eventOf c (step S σ c)))
+  watched-step =
+      step-cases S σ (λ c s. Watched S (s .state) (observe o (eventOf c s)))
+      (λ c n. rw (ne-eqb (ladder S σ c) 0 n) W)
+      (λ a z.
+      let R = accepted S σ _ _ z .reached in
+      watched-access (rowOf a) (R .row-in) (R .more) (storeBy S σ a) (move S σ (rowOf a)))
+      (λ z. watched-new S σ)
+      (λ r z. W)
+
+  concluded-step : (c : Call) → OfAccepted (Concludes S o ((step S σ c) .state)) (eventOf c (step S σ c))
+  concluded-step =
+      step-cases S σ (λ c s. OfAccepted (Concludes S o (s .state)) (eventOf c s))
+      (λ c n. not-accepted (Concludes S o σ) (eventOf c (refusedStep S σ c)) n)
+      (λ a z w.
+      let R = accepted S σ _ _ z .reached in
+      concluded (rowOf a) (R .row-in) (R .more) (storeBy S σ a) ((acceptedStep S σ (access a)) .answer) refl refl)
+      (λ z. tt)
+      (λ r z. tt)
+
+-- ---- every list
+
+module _ (S : Settings) where
+  watched-chain : {σ σ′ : State} {es : List Event} → Chain S σ es σ′ → (τ₀ τ : tally.Tally) → Inv S σ τ₀ τ
+      → (o : Observed) → Watched S σ o → Watched S σ′ (observed o es)
+  watched-chain end τ₀ τ I o W = W
+  watched-chain (call {σ} c rest) τ₀ τ I o W =
+      watched-chain rest _ _ (carried-on S σ τ₀ τ I c .1) _ (watched-step S σ τ₀ τ I o W c)
+  watched-chain (idle {σ′ = σ′} {es} z rest) τ₀ τ I o W =
+      subst (λ (x : Observed). Watched S σ′ (observed x es)) (sym (idle-observe o z)) (watched-chain rest τ₀ τ I o W)
+
+-- any call after a chain from set-up
+pub concludes : (S : Settings) (blank : State) → (calls.setUp S blank) .number ≡ 0 → {σ : State} {es : List Event}
+    → Chain S ((calls.setUp S blank) .state) es σ → (c : Call)
+    → OfAccepted (Concludes S (observed unobserved es) ((step S σ c) .state)) (eventOf c (step S σ c))
+concludes S blank z {σ} {es} chain c =
+    let I = inv-set-up S blank z in
+    let begun : Watched S ((calls.setUp S blank) .state) unobserved = rw (set-up-state S blank z) (watched-new S (calls.cleared S blank)) in
+    let J = inv-chain S chain tally.start tally.start I in
+    concluded-step S σ (J .0) (J .1) (J .2) (observed unobserved es) (watched-chain S chain tally.start tally.start I unobserved begun) c
+
+pub estimates : Estimates
+estimates S blank cs c z = concludes S blank z (chain-of S cs ((calls.setUp S blank) .state)) c

@@ -1,0 +1,80 @@
+-- Document 02, Ask 2: what the lab may conclude from the estimates that accesses answer. The proof is `estimates` of
+-- proofs/Estimates.antt; the same of what a C caller sees is `EstimatesServed` of crate `served`.
+-- Assumes nothing.
+use Prim.Native.Nat.{ℕ, suc, _+_, _%_, _≤_, _<_}
+use mathlib.Core.Path.{_≡_}
+use mathlib.Core.Logic.{_≢_}
+use mathlib.Core.Bool.{cond, not, _&&_}
+use mathlib.Core.List.{List, [], _∷_}
+use lib.Dec.{eqb}
+use Rattle.geometry.specs.declared.Settings.{Settings}
+use Rattle.geometry.specs.Entry.{empty}
+use Rattle.engine.specs.State.{State, trackerAt}
+use Rattle.engine.specs.Calls.{setUp}
+use Rattle.history.specs.Tally.{opened}
+use Rattle.history.specs.Run.{Access, Call, access, tick, inspect}
+use Rattle.history.specs.Run.{Answer, Event, step, run, eventOf, events, OfAccepted}
+
+-- what the answers of the running epoch say of each place (physical row)
+pub record Observed : Type 0 where
+  -- how often accesses opened it
+  pub accesses : ℕ → ℕ
+  -- the last estimate other than 0 that was answered for it, 0 where there was none
+  pub latest : ℕ → ℕ
+
+-- an epoch begins
+abbrev pub unobserved : Observed
+unobserved = record { accesses = λ p. 0; latest = λ p. 0 }
+
+-- after an accepted access of place p that answered this estimate
+abbrev pub observeAccess : Observed → ℕ → ℕ → Observed
+observeAccess o p estimate =
+    record {
+      accesses = opened (p ∷ []) (o .accesses);
+      latest = λ x. cond (eqb x p && not (eqb estimate 0)) estimate (o .latest x);
+    }
+
+-- after an accepted call
+abbrev pub observeCall : Observed → Call → Answer → Observed
+observeCall o (access a) answer = observeAccess o (answer .place) (answer .estimate)
+observeCall o tick answer = unobserved
+observeCall o (inspect r) answer = o
+
+abbrev pub observe : Observed → Event → Observed
+observe o e = cond (eqb (e .answer .number) 0) (observeCall o (e .call) (e .answer)) o
+
+-- after a list of events
+abbrev pub observed : Observed → List Event → Observed
+observed o [] = o
+observed o (e ∷ es) = observed (observe o e) es
+
+-- What an accepted access's answer says of its place. latest: the last estimate other than 0 answered for the place
+-- before, in this epoch; accesses: how often accesses opened the place in this epoch, this one included; spill: `spill`
+-- after the access.
+pub record Conclusions (S : Settings) (latest accesses spill : ℕ) (answer : Answer) : Type 0 where
+  -- the row was moved exactly where there is an estimate and A divides it
+  pub moved : answer .slot ≢ empty → (answer .estimate ≢ 0) × (answer .estimate % S .a ≡ 0)
+  pub stayed : answer .slot ≡ empty → answer .estimate ≢ 0 → answer .estimate % S .a ≢ 0
+  -- estimates of one place rise strictly; 0 may stand between them
+  pub rises : answer .estimate ≢ 0 → latest < answer .estimate
+  -- an estimate is at least the accesses of the place, and exceeds them by at most `spill`
+  pub most : answer .estimate ≢ 0 → accesses ≤ answer .estimate
+  pub least : answer .estimate ≤ accesses + spill
+  -- where there is none, there were at most `spill` of them
+  pub few : answer .estimate ≡ 0 → accesses ≤ spill
+  -- and `spill` is below A
+  pub below : spill < S .a
+
+-- o: what was observed before the access; σ: the memory after it
+abbrev pub Concludes : Settings → Observed → State → Access → Answer → Type 0
+Concludes S o σ a answer =
+    let p : ℕ = answer .place in
+    Conclusions S (o .latest p) (suc (o .accesses p)) ((trackerAt S σ p) .spill) answer
+
+-- For all settings, all lent memory, all lists of calls after an accepted set-up, and any call after the list: if it is
+-- an accepted access, these conclusions hold of its answer.
+abbrev pub Estimates : Type 0
+Estimates = (S : Settings) (blank : State) (cs : List Call) (c : Call) → (setUp S blank) .number ≡ 0 →
+    let σ : State = (setUp S blank) .state in
+    let last = step S (run S σ cs) c in
+    OfAccepted (Concludes S (observed unobserved (events S σ cs)) (last .state)) (eventOf c last)

@@ -1,0 +1,53 @@
+//! What an estimate tells of its place (document 02, Ask 2), judged from outside: it is fed the calls, their answers and
+//! `spill` as the call left it.
+
+use model::memory::{Answer, Call, Settings, NONE};
+
+/// What the answers of the running epoch said of each place.
+pub struct Estimates {
+    /// How often accesses opened it.
+    accesses: Vec<u32>,
+    /// The last estimate other than 0 that was answered for it.
+    latest: Vec<u32>,
+}
+
+impl Estimates {
+    pub fn new(s: &Settings) -> Estimates {
+        let places = s.n as usize + s.q as usize;
+        Estimates { accesses: vec![0; places], latest: vec![0; places] }
+    }
+
+    /// Takes in a call, and judges what it answered if it is an accepted access.
+    pub fn feed(&mut self, s: &Settings, call: &Call, answer: &Answer, spill: u32) -> Result<(), String> {
+        match call {
+            _ if answer.number != 0 => Ok(()),
+            Call::Read { .. } | Call::Write { .. } => self.access(s, answer, spill),
+            Call::Tick => {
+                self.accesses.fill(0);
+                self.latest.fill(0);
+                Ok(())
+            }
+            Call::SetUp | Call::Inspect { .. } => Ok(()),
+        }
+    }
+
+    fn access(&mut self, s: &Settings, answer: &Answer, spill: u32) -> Result<(), String> {
+        let place = answer.place as usize;
+        self.accesses[place] += 1;
+        let (accesses, latest, estimate) = (self.accesses[place], self.latest[place], answer.estimate);
+        let moved = answer.slot != NONE;
+        let holds = if estimate == 0 {
+            !moved && accesses <= spill
+        } else {
+            self.latest[place] = estimate;
+            moved == estimate.is_multiple_of(s.a)
+                && latest < estimate
+                && (accesses..=accesses + spill).contains(&estimate)
+        };
+        if holds && spill < s.a {
+            Ok(())
+        } else {
+            Err(format!("{answer:?}: {accesses} accesses of the place, estimate before {latest}, spill {spill}, {s:?}"))
+        }
+    }
+}
