@@ -1,7 +1,8 @@
 -- What an estimate tells of its place, after every list of calls. Assumes nothing.
-use Prim.Native.Nat.{ℕ, suc, _+_, _%_, _<_, _≤_}
+use Prim.Native.Nat.{ℕ, suc, _+_, _*_, _%_, _<_, _≤_}
+use native.Mathlib.Nat.{mul-le-mul-right}
 use native.Mathlib.Omega.{arith}
-use mathlib.Core.Path.{_≡_, refl, sym, subst}
+use mathlib.Core.Path.{_≡_, refl, sym, _∙_, subst}
 use mathlib.Core.Logic.{_⊎_, inl, inr, _≢_}
 use mathlib.Core.Bool.{Bool, true, false, cond, not, _&&_, true≢false}
 use mathlib.Core.List.{List}
@@ -15,7 +16,7 @@ use Rattle.conditions.proofs.Facts.{limit-fact}
 use Rattle.tracking.specs.Track.{isDue}
 use Rattle.tracking.proofs.View.{Tracks, estimate-new, spill-below}
 use Rattle.engine.specs.declared.Move.{Move}
-use Rattle.engine.specs.State.{State, trackerAt}
+use Rattle.engine.specs.State.{State, Tracker, trackerAt}
 use Rattle.engine.specs.Answer.{slotMovedTo}
 use Rattle.engine.specs.Steps.{place, tracked, moves, destination, move, settled}
 use Rattle.engine.specs.Calls as calls
@@ -35,21 +36,23 @@ use Rattle.history.proofs.Chain.{Chain, end, call, idle, chain-of, idle
 use Rattle.history.proofs.History.{set-up-state, inv-set-up, inv-chain}
 
 -- what was observed of a place against the tracker's estimate of it
-pub record Counted (estimate spill accesses latest : ℕ) : Type 0 where
-  pub most : accesses ≤ estimate
-  pub least : estimate ≤ accesses + spill
-  pub last : latest ≤ estimate
+record Counted (a estimate spill accesses latest : ℕ) : Type 0 where
+  most : accesses ≤ estimate
+  least : estimate ≤ accesses + spill
+  last : latest ≤ estimate
+  -- above the threshold it is the last one that was answered
+  near : (estimate ≡ latest) ⊎ (estimate < a)
 
 -- of every place
-abbrev pub Watched : Settings → State → Observed → Type 0
+abbrev Watched : Settings → State → Observed → Type 0
 Watched S σ o = (p : ℕ) → p ≢ empty
-    → Counted (estimate S σ p) ((trackerAt S σ p) .spill) (o .accesses p) (o .latest p)
+    → Counted (S .a) (estimate S σ p) ((trackerAt S σ p) .spill) (o .accesses p) (o .latest p)
 
 -- ---- a new epoch
 
 watched-new : (S : Settings) (σ : State) → Watched S (calls.ticked S σ) unobserved
 watched-new S σ p n =
-    rw (estimate-new (S .k) p) (record { most = omega arith; least = omega arith; last = omega arith })
+    rw (estimate-new (S .k) p) (record { most = omega arith; least = omega arith; last = omega arith; near = inl refl })
 
 -- ---- an accepted access
 
@@ -57,8 +60,15 @@ cond-most : {x y m : ℕ} (b : Bool) → x ≤ m → y ≤ m → cond b x y ≤ 
 cond-most true h k = h
 cond-most false h k = k
 
--- an estimate calls for a move, or it does not
+-- a multiple of a that something is below is at least a
+once : {x : ℕ} (a m : ℕ) → x < m * a → a ≤ m * a
+once {x} a m h =
+    elim (eq? m 0) [
+      | inl e ↦ let none : x < 0 * a = rw e at h in omega arith
+      | inr n ↦ omega (arith, mul-le-mul-right {m = 1} {n = m} a (omega arith))
+    ]
 
+-- an estimate calls for a move, or it does not
 due : (a e : ℕ) → isDue a e ≡ true → (e ≢ 0) × (e % a ≡ 0)
 due a e d = (
   eqb-false e 0 (not-true (eqb e 0) (and-left (not (eqb e 0)) (eqb (e % a) 0) d)),
@@ -79,24 +89,36 @@ module _ (S : Settings) (σ : State) (τ₀ τ : tally.Tally) (I : Inv S σ τ�
     real : p ≢ empty
     real = marks-none S (I .sound .ranges) p (place-in S σ (I .sound) r row-in)
 
-    K : Tracks (S .a) (S .k) p (σ .rows) (σ .counts) (σ .control .spill) (σ .control .acts) (tracked S σ r)
+    -- what step 2 does to the estimates
+    K : let t : Tracker = trackerAt S σ p in
+        Tracks (S .a) (S .k) p (t .rows) (t .counts) (t .spill) (t .acts) (tracked S σ r)
     K = T S σ τ₀ τ I r row-in more
+
+    below : (tracked S σ r) .spill < S .a
+    below = spill-below (K .after) (S .a) (S .l) more (limit-fact S (I .limit))
 
     -- the estimate that is answered is at most the place's
     given-most : given ≤ suc (estimate S σ p)
     given-most = elim (K .given) [ inl g ↦ omega (arith, g, K .same) | inr g ↦ omega (arith, g .0) ]
 
-    pub watched-access : (m : Move) → Watched S (settled S σ r store m) (observeAccess o p given)
+    watched-access : (m : Move) → Watched S (settled S σ r store m) (observeAccess o p given)
     watched-access m x n =
         elim (eq? x p) [
           | inl e ↦
               let was = W p real in
               let one : hit p p ≡ 1 = hit-same p p refl in
-              subst (λ (y : ℕ). Counted (estimate S (settled S σ r store m) y) ((tracked S σ r) .spill) (o .accesses y + (hit p y + 0)) ((observeAccess o p given) .latest y)) (sym e)
+              let after : State = settled S σ r store m in
+              let seen : Observed = observeAccess o p given in
+              subst (λ (y : ℕ). Counted (S .a) (estimate S after y) ((trackerAt S after y) .spill) (seen .accesses y) (seen .latest y))
+              (sym e)
               (record {
                 most = omega (arith, was .most, K .same);
                 least = omega (arith, was .least, K .same, K .spill-grows);
                 last = cond-most (eqb p p && not (eqb given 0)) (omega (arith, given-most, K .same)) (omega (arith, was .last, K .same));
+                near = elim (K .given) [
+                  | inl g ↦ inl (rw (eq-eqb p p refl, ne-eqb given 0 (λ z. omega (arith, K .same, g))) (sym g))
+                  | inr g ↦ inr (omega (arith, g .1, below))
+                ];
               })
           | inr k ↦
               let was = W x n in
@@ -106,19 +128,24 @@ module _ (S : Settings) (σ : State) (τ₀ τ : tally.Tally) (I : Inv S σ τ�
                 most = omega (arith, was .most);
                 least = elim (K .drifts x k n) [ inl g ↦ omega (arith, was .least, g, K .spill-grows) | inr g ↦ omega (arith, g) ];
                 last = omega (arith, was .last);
+                near = elim (K .other x k n .1) [
+                  | inl g ↦ elim (was .near) [ inl q ↦ inl (g ∙ q) | inr q ↦ inr (omega (arith, g)) ]
+                  | inr g ↦ inr g
+                ];
               })
         ]
 
-    -- whether a slot is answered tells whether the row was due
     slot-real : (d : ℕ) → d < S .q → d ≢ empty
     slot-real d b = marks-none S (I .sound .ranges) d (omega arith)
 
-    slot-told : (m : Move) → Plan S σ r m → ((slotMovedTo m ≡ empty) × (moves S σ r ≡ false)) ⊎ ((slotMovedTo m ≢ empty) × (moves S σ r ≡ true))
+    -- whether a slot is answered tells whether the row was due
+    slot-told : (m : Move) → Plan S σ r m
+        → ((slotMovedTo m ≡ empty) × (moves S σ r ≡ false)) ⊎ ((slotMovedTo m ≢ empty) × (moves S σ r ≡ true))
     slot-told m (rests e) = inl (refl, e)
     slot-told m (fills e vacant) = inr (slot-real (destination S σ r) (destination-in S σ r (I .head-in)), e)
     slot-told m (evicts e held) = inr (slot-real (destination S σ r) (destination-in S σ r (I .head-in)), e)
 
-    pub concluded : (answer : Answer) → answer .slot ≡ slotMovedTo (move S σ r) → answer .estimate ≡ given
+    concluded : (answer : Answer) → answer .slot ≡ slotMovedTo (move S σ r) → answer .estimate ≡ given
         → Conclusions S (o .latest p) (suc (o .accesses p)) ((tracked S σ r) .spill) answer
     concluded answer at is =
         let was = W p real in
@@ -127,10 +154,14 @@ module _ (S : Settings) (σ : State) (τ₀ τ : tally.Tally) (I : Inv S σ τ�
           moved = λ n. elim told [ inl t ↦ absurd (n (t .0)) | inr t ↦ due (S .a) given (t .1) ];
           stayed = λ z. elim told [ inl t ↦ not-due (S .a) given (t .1) | inr t ↦ absurd (t .0 z) ];
           rises = λ n. elim (K .given) [ inl g ↦ omega (arith, was .last, K .same, g) | inr g ↦ absurd (n (g .0)) ];
+          meets = λ m h. elim (was .near) [
+            | inl q ↦ omega (arith, given-most, q)
+            | inr q ↦ omega (arith, given-most, once (S .a) m h)
+          ];
           most = λ n. elim (K .given) [ inl g ↦ omega (arith, was .most, K .same, g) | inr g ↦ absurd (n (g .0)) ];
           least = omega (arith, given-most, was .least, K .spill-grows);
           few = λ z. elim (K .given) [ inl g ↦ omega (arith, K .same, g) | inr g ↦ omega (arith, was .most, K .same, g .1) ];
-          below = spill-below (K .after) (S .a) (S .l) more (limit-fact S (I .limit));
+          below = below;
         })
 
   -- ---- one call

@@ -1,7 +1,7 @@
 -- Document 02, Ask 2: what the lab may conclude from the estimates that accesses answer. The proof is `estimates` of
 -- proofs/Estimates.antt; the same of what a C caller sees is `EstimatesServed` of crate `served`.
 -- Assumes nothing.
-use Prim.Native.Nat.{ℕ, suc, _+_, _%_, _≤_, _<_}
+use Prim.Native.Nat.{ℕ, suc, _+_, _*_, _%_, _≤_, _<_}
 use mathlib.Core.Path.{_≡_}
 use mathlib.Core.Logic.{_≢_}
 use mathlib.Core.Bool.{cond, not, _&&_}
@@ -55,8 +55,9 @@ pub record Conclusions (S : Settings) (latest accesses spill : ℕ) (answer : An
   -- the row was moved exactly where there is an estimate and A divides it
   pub moved : answer .slot ≢ empty → (answer .estimate ≢ 0) × (answer .estimate % S .a ≡ 0)
   pub stayed : answer .slot ≡ empty → answer .estimate ≢ 0 → answer .estimate % S .a ≢ 0
-  -- estimates of one place rise strictly; 0 may stand between them
+  -- the estimates of one place rise strictly, 0 may stand between them, and they pass over no multiple of A
   pub rises : answer .estimate ≢ 0 → latest < answer .estimate
+  pub meets : (m : ℕ) → latest < m * S .a → answer .estimate ≤ m * S .a
   -- an estimate is at least the accesses of the place, and exceeds them by at most `spill`
   pub most : answer .estimate ≢ 0 → accesses ≤ answer .estimate
   pub least : answer .estimate ≤ accesses + spill

@@ -42,6 +42,7 @@ impl Estimates {
             self.latest[place] = estimate;
             moved == estimate.is_multiple_of(s.a)
                 && latest < estimate
+                && u64::from(estimate) <= (u64::from(latest / s.a) + 1) * u64::from(s.a)
                 && (accesses..=accesses + spill).contains(&estimate)
         };
         if holds && spill < s.a {
