@@ -59,9 +59,10 @@ typedef struct {
     uint64_t place;    /* the physical row that was opened */
 } aqua_outcome;
 
-/* What an estimate tells, whatever calls were made since set-up: the row was moved exactly where the estimate is not 0 and
- * settings.a divides it. Accesses opened place in this epoch, this one included, at most estimate times and at least
- * estimate - control.spill times; where the estimate is 0, at most control.spill times, which is below settings.a. */
+/* What the estimate of an accepted access tells, whatever calls were made since set-up. The row was moved exactly where the
+ * estimate is not 0 and settings.a divides it. Accesses opened place in this epoch, this one included, at most estimate
+ * times and at least estimate - control.spill times; where the estimate is 0, at most control.spill times. control.spill is
+ * as the access left it, and below settings.a. */
 
 /* Where a part of the store lies. */
 typedef struct {

@@ -141,14 +141,8 @@ fn go(
         reverse,
     );
     let estimate = tracker::estimate(choice);
-    done(
-        next,
-        spill,
-        control.acts,
-        place,
-        estimate,
-        settle::move_into(d, held),
-    )
+    let moved = settle::move_into(d, held);
+    done(next, spill, control.acts, place, estimate, moved)
 }
 
 // Read: the row's bytes go into the buffer where it is accepted.

@@ -9,8 +9,8 @@ use geometry::Settings;
 use sizing::RefreshTimes;
 use sizing::SizeTimes;
 
-// What a call answers, in numbers: number, place, slot moved to, row sent home, 65535 for none, estimate, and the length of
-// inspect's part. And the memory after it.
+// What a call answers, in numbers: number, place, slot moved to, row sent home (65535 for none), estimate, and the length
+// of inspect's part. And the memory after it.
 pub struct Step {
     pub answer: [u64; 6],
     pub memory: Memory,

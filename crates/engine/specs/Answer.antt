@@ -1,4 +1,4 @@
--- 01's number and values for each case of an access's answer.
+-- 01's number and values, and 02's estimate, for each case of an access's answer.
 -- Assumes nothing.
 use Prim.Native.Nat.{ℕ}
 use Rattle.geometry.specs.Entry.{empty}
@@ -17,7 +17,8 @@ abbrev pub placeOf : Access → ℕ
 placeOf (Refused x) = 0
 placeOf (Done p e m) = p .0
 
--- 'the estimate after the access, or 0 where only `spill` rose' (document 02, Ask 2)
+-- 'the estimate after the access, or 0 where only `spill` rose' (document 02, Ask 2); the tracker's own estimates have the
+-- names `estimateBy` (of a way of step 2) and `estimateOf` (of a place, in proofs)
 abbrev pub estimateIn : Access → ℕ
 estimateIn (Refused x) = 0
 estimateIn (Done p e m) = e

@@ -78,7 +78,10 @@ unfoldable pub accessed : Settings → State → ℕ → ℕ → List ℕ → Li
 accessed S σ r number store filled buffer =
     record {
       state = cond (eqb number 0) (stateAfter S σ r store) σ;
-      answer = cond (eqb number 0) (Done (physical (place S σ r)) ((tracked S σ r) .estimate) (move S σ r)) (Refused number);
+      answer =
+          cond (eqb number 0)
+          (Done (physical (place S σ r)) ((tracked S σ r) .estimate) (move S σ r))
+          (Refused number);
       buffer = cond (eqb number 0) filled buffer;
     }
 

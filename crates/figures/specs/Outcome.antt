@@ -1,4 +1,5 @@
--- What a C caller gets for an access: document 01's number and values for each case of the engine's answer.
+-- What a C caller gets for an access: document 01's number and values, and document 02's estimate, for each case of the
+-- engine's answer.
 -- Assumes nothing.
 use Rattle.engine.specs.declared.Access.{Access}
 use Rattle.engine.specs.Answer.{numberOf, placeOf, estimateIn, moveOf, slotMovedTo, rowSentHome}

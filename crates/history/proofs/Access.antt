@@ -31,7 +31,7 @@ tallyAfter S τ r m = tally.afterAccess S τ r (slotMovedTo m) (rowSentHome m)
 
 module _ (S : Settings) (σ : State) (τ₀ τ : tally.Tally) (I : Inv S σ τ₀ τ) (r : ℕ) (row-in : r < S .n)
     (more : trackerAt S σ (place S σ r) .acts < S .l) where
-  pub T : let t : Tracker = trackerAt S σ (place S σ r) in
+  T : let t : Tracker = trackerAt S σ (place S σ r) in
       Tracks (S .a) (S .k) (place S σ r) (t .rows) (t .counts) (t .spill) (t .acts) (tracked S σ r)
   T = tracks-access S σ (I .sound) r row-in (limit-fact S (I .limit)) more (I .counting (place S σ r))
 

@@ -4,7 +4,7 @@ use native.Mathlib.Nat.{mul-le-mul-right}
 use native.Mathlib.Omega.{arith}
 use mathlib.Core.Path.{_≡_, refl, sym, _∙_, subst}
 use mathlib.Core.Logic.{_⊎_, inl, inr, _≢_}
-use mathlib.Core.Bool.{Bool, true, false, cond, not, _&&_, true≢false}
+use mathlib.Core.Bool.{true, false, not, true≢false}
 use mathlib.Core.List.{List}
 use lib.Dec.{eqb}
 use borrow.Author.Tests.{eq-eqb, ne-eqb, eqb-true, eqb-false, not-true}
@@ -14,6 +14,7 @@ use Rattle.geometry.proofs.Cases.{eq?}
 use Rattle.geometry.proofs.Tests.{and-left, and-right}
 use Rattle.conditions.proofs.Facts.{limit-fact}
 use Rattle.tracking.specs.Track.{isDue}
+use Rattle.tracking.proofs.Tracking.{estimateOf}
 use Rattle.tracking.proofs.View.{Tracks, estimate-new, spill-below}
 use Rattle.engine.specs.declared.Move.{Move}
 use Rattle.engine.specs.State.{State, Tracker, trackerAt}
@@ -22,7 +23,7 @@ use Rattle.engine.specs.Steps.{place, tracked, moves, destination, move, settle
 use Rattle.engine.specs.Calls as calls
 use Rattle.engine.proofs.Facts.{accepted}
 use Rattle.engine.proofs.Pointers.{marks-none, place-in}
-use Rattle.engine.proofs.Moves.{Plan, rests, fills, evicts, plan, destination-in}
+use Rattle.engine.proofs.Moves.{tracks-access, Plan, rests, fills, evicts, plan, destination-in}
 use Rattle.history.specs.Tally as tally
 use Rattle.history.specs.Tally.{hit}
 use Rattle.history.specs.Run.{Call, access, rowOf, Answer, Event, step, eventOf, OfAccepted}
@@ -30,23 +31,22 @@ use Rattle.history.specs.Estimates.{Observed, unobserved, observeAccess,
 use Rattle.history.proofs.Groups.{acceptedStep, refusedStep, ladder, storeBy, not-accepted, step-cases}
 use Rattle.history.proofs.Invariant.{Inv, estimate}
 use Rattle.history.proofs.Openings.{hit-same, hit-other}
-use Rattle.history.proofs.Access.{T}
 use Rattle.history.proofs.Calls.{carried-on}
 use Rattle.history.proofs.Chain.{Chain, end, call, idle, chain-of, idle-observe}
 use Rattle.history.proofs.History.{set-up-state, inv-set-up, inv-chain}
 
 -- what was observed of a place against the tracker's estimate of it
-record Counted (a estimate spill accesses latest : ℕ) : Type 0 where
+record Counted (a estimate spill accesses latest since : ℕ) : Type 0 where
   most : accesses ≤ estimate
   least : estimate ≤ accesses + spill
-  last : latest ≤ estimate
-  -- above the threshold it is the last one that was answered
+  last : latest + since ≤ estimate
+  -- from the threshold on it is the last one that was answered
   near : (estimate ≡ latest) ⊎ (estimate < a)
 
 -- of every place
 abbrev Watched : Settings → State → Observed → Type 0
 Watched S σ o = (p : ℕ) → p ≢ empty
-    → Counted (S .a) (estimate S σ p) ((trackerAt S σ p) .spill) (o .accesses p) (o .latest p)
+    → Counted (S .a) (estimate S σ p) ((trackerAt S σ p) .spill) (o .accesses p) (o .latest p) (o .since p)
 
 -- ---- a new epoch
 
@@ -56,11 +56,7 @@ watched-new S σ p n =
 
 -- ---- an accepted access
 
-cond-most : {x y m : ℕ} (b : Bool) → x ≤ m → y ≤ m → cond b x y ≤ m
-cond-most true h k = h
-cond-most false h k = k
-
--- a multiple of a that something is below is at least a
+-- a multiple of a that is above some number is at least a
 once : {x : ℕ} (a m : ℕ) → x < m * a → a ≤ m * a
 once {x} a m h =
     elim (eq? m 0) [
@@ -92,12 +88,15 @@ module _ (S : Settings) (σ : State) (τ₀ τ : tally.Tally) (I : Inv S σ τ�
     -- what step 2 does to the estimates
     K : let t : Tracker = trackerAt S σ p in
         Tracks (S .a) (S .k) p (t .rows) (t .counts) (t .spill) (t .acts) (tracked S σ r)
-    K = T S σ τ₀ τ I r row-in more
+    K = tracks-access S σ (I .sound) r row-in (limit-fact S (I .limit)) more (I .counting p)
 
     below : (tracked S σ r) .spill < S .a
     below = spill-below (K .after) (S .a) (S .l) more (limit-fact S (I .limit))
 
-    -- the estimate that is answered is at most the place's
+    -- the estimate that is answered is the place's, which is not 0, or it is 0
+    some : given ≡ estimateOf ((tracked S σ r) .rows) ((tracked S σ r) .counts) ((tracked S σ r) .spill) p → given ≢ 0
+    some g z = omega (arith, K .same, g)
+
     given-most : given ≤ suc (estimate S σ p)
     given-most = elim (K .given) [ inl g ↦ omega (arith, g, K .same) | inr g ↦ omega (arith, g .0) ]
 
@@ -109,14 +108,18 @@ module _ (S : Settings) (σ : State) (τ₀ τ : tally.Tally) (I : Inv S σ τ�
               let one : hit p p ≡ 1 = hit-same p p refl in
               let after : State = settled S σ r store m in
               let seen : Observed = observeAccess o p given in
-              subst (λ (y : ℕ). Counted (S .a) (estimate S after y) ((trackerAt S after y) .spill) (seen .accesses y) (seen .latest y))
+              subst (λ (y : ℕ).
+              Counted (S .a) (estimate S after y) ((trackerAt S after y) .spill) (seen .accesses y) (seen .latest y) (seen .since y))
               (sym e)
               (record {
                 most = omega (arith, was .most, K .same);
                 least = omega (arith, was .least, K .same, K .spill-grows);
-                last = cond-most (eqb p p && not (eqb given 0)) (omega (arith, given-most, K .same)) (omega (arith, was .last, K .same));
+                last = elim (K .given) [
+                  | inl g ↦ rw (eq-eqb p p refl, ne-eqb given 0 (some g)) (omega (arith, g))
+                  | inr g ↦ rw (eq-eqb p p refl, eq-eqb given 0 (g .0)) (omega (arith, was .last, K .same))
+                ];
                 near = elim (K .given) [
-                  | inl g ↦ inl (rw (eq-eqb p p refl, ne-eqb given 0 (λ z. omega (arith, K .same, g))) (sym g))
+                  | inl g ↦ inl (rw (eq-eqb p p refl, ne-eqb given 0 (some g)) (sym g))
                   | inr g ↦ inr (omega (arith, g .1, below))
                 ];
               })
@@ -146,7 +149,7 @@ module _ (S : Settings) (σ : State) (τ₀ τ : tally.Tally) (I : Inv S σ τ�
     slot-told m (evicts e held) = inr (slot-real (destination S σ r) (destination-in S σ r (I .head-in)), e)
 
     concluded : (answer : Answer) → answer .slot ≡ slotMovedTo (move S σ r) → answer .estimate ≡ given
-        → Conclusions S (o .latest p) (suc (o .accesses p)) ((tracked S σ r) .spill) answer
+        → Conclusions S (suc (o .accesses p)) (o .latest p) (o .since p) ((tracked S σ r) .spill) answer
     concluded answer at is =
         let was = W p real in
         let told = slot-told (move S σ r) (plan S σ r) in
@@ -154,13 +157,14 @@ module _ (S : Settings) (σ : State) (τ₀ τ : tally.Tally) (I : Inv S σ τ�
           moved = λ n. elim told [ inl t ↦ absurd (n (t .0)) | inr t ↦ due (S .a) given (t .1) ];
           stayed = λ z. elim told [ inl t ↦ not-due (S .a) given (t .1) | inr t ↦ absurd (t .0 z) ];
           rises = λ n. elim (K .given) [ inl g ↦ omega (arith, was .last, K .same, g) | inr g ↦ absurd (n (g .0)) ];
-          meets = λ m h. elim (was .near) [
+          passes-none = λ m h. elim (was .near) [
             | inl q ↦ omega (arith, given-most, q)
             | inr q ↦ omega (arith, given-most, once (S .a) m h)
           ];
           most = λ n. elim (K .given) [ inl g ↦ omega (arith, was .most, K .same, g) | inr g ↦ absurd (n (g .0)) ];
           least = omega (arith, given-most, was .least, K .spill-grows);
           few = λ z. elim (K .given) [ inl g ↦ omega (arith, K .same, g) | inr g ↦ omega (arith, was .most, K .same, g .1) ];
+          rests = λ z. elim (K .given) [ inl g ↦ omega (arith, K .same, g) | inr g ↦ omega (arith, was .last, K .same, g .1) ];
           below = below;
         })
 

@@ -4,7 +4,7 @@
 use Prim.Native.Nat.{ℕ, suc, _+_, _*_, _%_, _≤_, _<_}
 use mathlib.Core.Path.{_≡_}
 use mathlib.Core.Logic.{_≢_}
-use mathlib.Core.Bool.{cond, not, _&&_}
+use mathlib.Core.Bool.{Bool, cond, not, _&&_}
 use mathlib.Core.List.{List, [], _∷_}
 use lib.Dec.{eqb}
 use Rattle.geometry.specs.declared.Settings.{Settings}
@@ -21,17 +21,21 @@ pub record Observed : Type 0 where
   pub accesses : ℕ → ℕ
   -- the last estimate other than 0 that was answered for it, 0 where there was none
   pub latest : ℕ → ℕ
+  -- how often accesses opened it after that one
+  pub since : ℕ → ℕ
 
 -- an epoch begins
 abbrev pub unobserved : Observed
-unobserved = record { accesses = λ p. 0; latest = λ p. 0 }
+unobserved = record { accesses = λ p. 0; latest = λ p. 0; since = λ p. 0 }
 
 -- after an accepted access of place p that answered this estimate
 abbrev pub observeAccess : Observed → ℕ → ℕ → Observed
 observeAccess o p estimate =
+    let told : ℕ → Bool = λ x. eqb x p && not (eqb estimate 0) in
     record {
       accesses = opened (p ∷ []) (o .accesses);
-      latest = λ x. cond (eqb x p && not (eqb estimate 0)) estimate (o .latest x);
+      latest = λ x. cond (told x) estimate (o .latest x);
+      since = λ x. cond (told x) 0 (opened (p ∷ []) (o .since) x);
     }
 
 -- after an accepted call
@@ -48,21 +52,23 @@ abbrev pub observed : Observed → List Event → Observed
 observed o [] = o
 observed o (e ∷ es) = observed (observe o e) es
 
--- What an accepted access's answer says of its place. latest: the last estimate other than 0 answered for the place
--- before, in this epoch; accesses: how often accesses opened the place in this epoch, this one included; spill: `spill`
--- after the access.
-pub record Conclusions (S : Settings) (latest accesses spill : ℕ) (answer : Answer) : Type 0 where
+-- What an accepted access's answer says of its place. accesses: how often accesses opened the place in this epoch, this
+-- one included; latest: the last estimate other than 0 answered for it before, in this epoch; between: how often accesses
+-- opened it between that one and this one; spill: `spill` after the access.
+pub record Conclusions (S : Settings) (accesses latest between spill : ℕ) (answer : Answer) : Type 0 where
   -- the row was moved exactly where there is an estimate and A divides it
   pub moved : answer .slot ≢ empty → (answer .estimate ≢ 0) × (answer .estimate % S .a ≡ 0)
   pub stayed : answer .slot ≡ empty → answer .estimate ≢ 0 → answer .estimate % S .a ≢ 0
-  -- the estimates of one place rise strictly, 0 may stand between them, and they pass over no multiple of A
-  pub rises : answer .estimate ≢ 0 → latest < answer .estimate
-  pub meets : (m : ℕ) → latest < m * S .a → answer .estimate ≤ m * S .a
+  -- the estimates of one place rise strictly (0 may stand between them), by at least one for each access, and pass over no
+  -- multiple of A
+  pub rises : answer .estimate ≢ 0 → latest + between < answer .estimate
+  pub passes-none : (m : ℕ) → latest < m * S .a → answer .estimate ≤ m * S .a
   -- an estimate is at least the accesses of the place, and exceeds them by at most `spill`
   pub most : answer .estimate ≢ 0 → accesses ≤ answer .estimate
   pub least : answer .estimate ≤ accesses + spill
-  -- where there is none, there were at most `spill` of them
+  -- where there is none, `spill` is so
   pub few : answer .estimate ≡ 0 → accesses ≤ spill
+  pub rests : answer .estimate ≡ 0 → latest + between < spill
   -- and `spill` is below A
   pub below : spill < S .a
 
@@ -70,7 +76,7 @@ pub record Conclusions (S : Settings) (latest accesses spill : ℕ) (answer : An
 abbrev pub Concludes : Settings → Observed → State → Access → Answer → Type 0
 Concludes S o σ a answer =
     let p : ℕ = answer .place in
-    Conclusions S (o .latest p) (suc (o .accesses p)) ((trackerAt S σ p) .spill) answer
+    Conclusions S (suc (o .accesses p)) (o .latest p) (o .since p) ((trackerAt S σ p) .spill) answer
 
 -- For all settings, all lent memory, all lists of calls after an accepted set-up, and any call after the list: if it is
 -- an accepted access, these conclusions hold of its answer.

@@ -65,15 +65,15 @@ abbrev pub Demand2Served : Type 0
 Demand2Served = (S : Settings) (blank σ σ′ : State) (es : List Logged) → SetUpPromise S blank σ 0 → Transcript S σ es σ′
     → Preserved S (standing S blank) es σ′
 
--- Document 02, Ask 2. For all settings and all lent memory: if `aqua_set_up` answered 0, then any access that is accepted
--- after any transcript from there tells what `Conclusions` of crate `history` says. (One that is lent another length is
--- not accepted.)
+-- Document 02, Ask 2. For all settings and all lent memory: if `aqua_set_up` answered 0, then any access that is
+-- accepted after any transcript from there tells what `Conclusions` of crate `history` says. (One that is lent another
+-- length is not accepted.)
 abbrev pub EstimatesServed : Type 0
 EstimatesServed = (S : Settings) (blank σ between σ′ : State) (es : List Logged) (x : Exchange)
     → SetUpPromise S blank σ 0 → Transcript S σ es between → Promised S between x σ′
     → OfAccepted (Concludes S (observed unobserved (map seenOf es)) σ′) (seen x)
 
--- Every beginning of a transcript is a transcript, so that both hold after every call of it.
+-- Every beginning of a transcript is a transcript, so that demands 2 and 3 hold after every call of it.
 abbrev pub BeginningsServed : Type 0
 BeginningsServed = (S : Settings) (σ σ′ : State) (xs ys : List Logged) → Transcript S σ (xs ++ ys) σ′
     → (between : State) × (Transcript S σ xs between × Transcript S between ys σ′)

@@ -54,7 +54,7 @@ pub record Tracks (a k p : ℕ) (rows counts : List ℕ) (spill acts : ℕ) (t :
   pub after : Counting k (t .rows) (t .counts) (t .spill) (suc acts)
   pub same : estimateOf (t .rows) (t .counts) (t .spill) p ≡ suc (estimateOf rows counts spill p)
   pub other : (q : ℕ) → q ≢ p → q ≢ empty → Grew a (estimateOf rows counts spill q) (estimateOf (t .rows) (t .counts) (t .spill) q)
-  -- which is what the place had, or `spill`; and `spill` never falls
+  -- the estimate of another place is as it was, or `spill`; and `spill` never falls
   pub drifts : (q : ℕ) → q ≢ p → q ≢ empty → (estimateOf (t .rows) (t .counts) (t .spill) q ≡ estimateOf rows counts spill q)
       ⊎ (estimateOf (t .rows) (t .counts) (t .spill) q ≡ t .spill)
   pub spill-grows : spill ≤ t .spill

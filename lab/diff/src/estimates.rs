@@ -1,5 +1,5 @@
-//! What an estimate tells of its place (document 02, Ask 2), judged from outside: it is fed the calls, their answers and
-//! `spill` as the call left it.
+//! What an estimate tells of its place (document 02, Ask 2), judged from outside: the judge is fed the calls, their answers
+//! and `spill` as the call left it.
 
 use model::memory::{Answer, Call, Settings, NONE};
 
@@ -9,12 +9,14 @@ pub struct Estimates {
     accesses: Vec<u32>,
     /// The last estimate other than 0 that was answered for it.
     latest: Vec<u32>,
+    /// How often accesses opened it after that one.
+    since: Vec<u32>,
 }
 
 impl Estimates {
     pub fn new(s: &Settings) -> Estimates {
         let places = s.n as usize + s.q as usize;
-        Estimates { accesses: vec![0; places], latest: vec![0; places] }
+        Estimates { accesses: vec![0; places], latest: vec![0; places], since: vec![0; places] }
     }
 
     /// Takes in a call, and judges what it answered if it is an accepted access.
@@ -25,6 +27,7 @@ impl Estimates {
             Call::Tick => {
                 self.accesses.fill(0);
                 self.latest.fill(0);
+                self.since.fill(0);
                 Ok(())
             }
             Call::SetUp | Call::Inspect { .. } => Ok(()),
@@ -35,20 +38,23 @@ impl Estimates {
         let place = answer.place as usize;
         self.accesses[place] += 1;
         let (accesses, latest, estimate) = (self.accesses[place], self.latest[place], answer.estimate);
+        let least = latest + self.since[place] + 1;
         let moved = answer.slot != NONE;
         let holds = if estimate == 0 {
-            !moved && accesses <= spill
+            self.since[place] += 1;
+            !moved && accesses <= spill && least <= spill
         } else {
             self.latest[place] = estimate;
+            self.since[place] = 0;
             moved == estimate.is_multiple_of(s.a)
-                && latest < estimate
+                && least <= estimate
                 && u64::from(estimate) <= (u64::from(latest / s.a) + 1) * u64::from(s.a)
                 && (accesses..=accesses + spill).contains(&estimate)
         };
         if holds && spill < s.a {
             Ok(())
         } else {
-            Err(format!("{answer:?}: {accesses} accesses of the place, estimate before {latest}, spill {spill}, {s:?}"))
+            Err(format!("{answer:?}: {accesses} accesses of the place, a count of at least {least}, spill {spill}, {s:?}"))
         }
     }
 }

@@ -90,11 +90,11 @@ pub struct Pair {
     pub buffer: Vec<u8>,
 }
 
-fn access(model: &Model, row: u32, served: &Result<Served, Refusal>) -> (Answer, Option<Refusal>) {
+fn access(model: &Model, asked: u32, served: &Result<Served, Refusal>) -> (Answer, Option<Refusal>) {
     let slot_or_row = |n: Option<usize>| n.map_or(NONE, |n| n as u32);
     match served {
         Err(r) => {
-            let estimate = model.refused_estimate(row, *r).unwrap_or(0);
+            let estimate = model.refused_estimate(asked, *r).unwrap_or(0);
             (Answer { estimate, ..Answer::bare(r.number()) }, Some(*r))
         }
         Ok(s) => {
