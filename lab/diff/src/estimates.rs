@@ -54,7 +54,9 @@ impl Estimates {
         if holds && spill < s.a {
             Ok(())
         } else {
-            Err(format!("{answer:?}: {accesses} accesses of the place, a count of at least {least}, spill {spill}, {s:?}"))
+            Err(format!(
+                "{answer:?}: {accesses} accesses of the place, a count of at least {least}, spill {spill}, {s:?}"
+            ))
         }
     }
 }
