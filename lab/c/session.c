@@ -90,7 +90,8 @@ static void bytes(void) {
     expect(o.number == 6 && o.place == 0 && o.slot == AQUA_NONE && o.row == AQUA_NONE && o.estimate == 0,
            "a write past W gets 6");
     o = read_row(1, buffer);
-    expect(o.number == 0 && o.slot == 0 && o.estimate == settings.a && buffer[0] == 42, "the read that moves the row returns the byte");
+    expect(o.number == 0 && o.slot == 0 && o.estimate == settings.a && buffer[0] == 42,
+           "the read that moves the row returns the byte");
     expect(aqua_inspect_number(&control, settings, 1, store, sizeof store, forward, N, reverse, Q, rows, K, counts,
                                K) == 0, "inspect is accepted");
     aqua_span span = inspect_span(1);

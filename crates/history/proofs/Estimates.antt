@@ -14,7 +14,6 @@ use Rattle.geometry.proofs.Cases.{eq?}
 use Rattle.geometry.proofs.Tests.{and-left, and-right}
 use Rattle.conditions.proofs.Facts.{limit-fact}
 use Rattle.tracking.specs.Track.{isDue}
-use Rattle.tracking.proofs.Tracking.{estimateOf}
 use Rattle.tracking.proofs.View.{Tracks, estimate-new, spill-below}
 use Rattle.engine.specs.declared.Move.{Move}
 use Rattle.engine.specs.State.{State, Tracker, trackerAt}
@@ -93,12 +92,15 @@ module _ (S : Settings) (σ : State) (τ₀ τ : tally.Tally) (I : Inv S σ τ�
     below : (tracked S σ r) .spill < S .a
     below = spill-below (K .after) (S .a) (S .l) more (limit-fact S (I .limit))
 
-    -- the estimate that is answered is the place's, which is not 0, or it is 0
-    some : given ≡ estimateOf ((tracked S σ r) .rows) ((tracked S σ r) .counts) ((tracked S σ r) .spill) p → given ≢ 0
-    some g z = omega (arith, K .same, g)
+    -- what is answered is one more than the tracker's estimate of the place before; where it is 0, `spill` is that
+    given-is : given ≢ 0 → given ≡ suc (estimate S σ p)
+    given-is n = elim (K .given) [ inl g ↦ g ∙ K .same | inr g ↦ absurd (n (g .0)) ]
+
+    spill-is : given ≡ 0 → (tracked S σ r) .spill ≡ suc (estimate S σ p)
+    spill-is z = elim (K .given) [ inl g ↦ omega (arith, g, K .same) | inr g ↦ sym (g .1) ∙ K .same ]
 
     given-most : given ≤ suc (estimate S σ p)
-    given-most = elim (K .given) [ inl g ↦ omega (arith, g, K .same) | inr g ↦ omega (arith, g .0) ]
+    given-most = elim (eq? given 0) [ inl z ↦ omega arith | inr n ↦ omega (arith, given-is n) ]
 
     watched-access : (m : Move) → Watched S (settled S σ r store m) (observeAccess o p given)
     watched-access m x n =
@@ -114,13 +116,13 @@ module _ (S : Settings) (σ : State) (τ₀ τ : tally.Tally) (I : Inv S σ τ�
               (record {
                 most = omega (arith, was .most, K .same);
                 least = omega (arith, was .least, K .same, K .spill-grows);
-                last = elim (K .given) [
-                  | inl g ↦ rw (eq-eqb p p refl, ne-eqb given 0 (some g)) (omega (arith, g))
-                  | inr g ↦ rw (eq-eqb p p refl, eq-eqb given 0 (g .0)) (omega (arith, was .last, K .same))
+                last = elim (eq? given 0) [
+                  | inl z ↦ rw (eq-eqb p p refl, eq-eqb given 0 z) (omega (arith, was .last, K .same))
+                  | inr g ↦ rw (eq-eqb p p refl, ne-eqb given 0 g) (omega (arith, given-is g, K .same))
                 ];
-                near = elim (K .given) [
-                  | inl g ↦ inl (rw (eq-eqb p p refl, ne-eqb given 0 (some g)) (sym g))
-                  | inr g ↦ inr (omega (arith, g .1, below))
+                near = elim (eq? given 0) [
+                  | inl z ↦ inr (omega (arith, spill-is z, K .same, below))
+                  | inr g ↦ inl (rw (eq-eqb p p refl, ne-eqb given 0 g) (K .same ∙ sym (given-is g)))
                 ];
               })
           | inr k ↦
@@ -156,15 +158,15 @@ module _ (S : Settings) (σ : State) (τ₀ τ : tally.Tally) (I : Inv S σ τ�
         rw (at, is) (record {
           moved = λ n. elim told [ inl t ↦ absurd (n (t .0)) | inr t ↦ due (S .a) given (t .1) ];
           stayed = λ z. elim told [ inl t ↦ not-due (S .a) given (t .1) | inr t ↦ absurd (t .0 z) ];
-          rises = λ n. elim (K .given) [ inl g ↦ omega (arith, was .last, K .same, g) | inr g ↦ absurd (n (g .0)) ];
+          rises = λ n. omega (arith, was .last, given-is n);
           passes-none = λ m h. elim (was .near) [
             | inl q ↦ omega (arith, given-most, q)
             | inr q ↦ omega (arith, given-most, once (S .a) m h)
           ];
-          most = λ n. elim (K .given) [ inl g ↦ omega (arith, was .most, K .same, g) | inr g ↦ absurd (n (g .0)) ];
+          most = λ n. omega (arith, was .most, given-is n);
           least = omega (arith, given-most, was .least, K .spill-grows);
-          few = λ z. elim (K .given) [ inl g ↦ omega (arith, K .same, g) | inr g ↦ omega (arith, was .most, K .same, g .1) ];
-          rests = λ z. elim (K .given) [ inl g ↦ omega (arith, K .same, g) | inr g ↦ omega (arith, was .last, K .same, g .1) ];
+          few = λ z. omega (arith, was .most, spill-is z);
+          spill-above = λ z. omega (arith, was .last, spill-is z);
           below = below;
         })
 

@@ -66,9 +66,9 @@ pub record Conclusions (S : Settings) (accesses latest between spill : ℕ) (ans
   -- an estimate is at least the accesses of the place, and exceeds them by at most `spill`
   pub most : answer .estimate ≢ 0 → accesses ≤ answer .estimate
   pub least : answer .estimate ≤ accesses + spill
-  -- where there is none, `spill` is so
+  -- where there is none, `spill` stands for it: it is at least the accesses, and has risen by at least one for each
   pub few : answer .estimate ≡ 0 → accesses ≤ spill
-  pub rests : answer .estimate ≡ 0 → latest + between < spill
+  pub spill-above : answer .estimate ≡ 0 → latest + between < spill
   -- and `spill` is below A
   pub below : spill < S .a
 
