@@ -1,5 +1,5 @@
 -- Laws of `paste xs at ys n`, the list xs with the first n elements of ys in place of its own from index `at` on: what
--- stands at each index, one paste after another, a paste by way of a block, and a paste into a part that is lent.
+-- stands at each index, one paste after another, and a paste into a part that is lent.
 -- Assumes nothing.
 use Prim.Native.Nat.{ℕ, _+_, _-_, _≤_, _<_}
 use mathlib.Core.Path.{_≡_, sym, ap, _∙_}
@@ -59,17 +59,6 @@ paste-further d at s i k fits enough =
 -- all of d is written
 pub paste-over : (d s : List ℕ) → length d ≡ length s → paste d 0 s (length s) ≡ s
 paste-over d s h = simp (zero-add, drop-of-length-le d {i = length s} (omega arith), append-nil, take-length)
-
--- k elements that are written to a block with room for them, and from there into d
-pub paste-through : (d : List ℕ) (at : ℕ) (s : List ℕ) (k : ℕ) (block : List ℕ) {full after : List ℕ} → k ≤ length block → length s ≡ k
-    → full ≡ paste block 0 s (length s) → after ≡ paste d at (take k full) (length (take k full)) → after ≡ paste d at s k
-paste-through d at s k block {full} room enough filled put =
-    let same : take k full ≡ take k s =
-    ap (take k) (filled ∙ ap (λ (n : ℕ). paste block 0 s n) enough) ∙ ap (λ (n : ℕ). take n (paste block 0 s k)) (sym (zero-add k))
-    ∙ take-paste block 0 s k (omega arith) (omega arith)
-    in
-    let long : length (take k full) ≡ k = ap length same ∙ length-take-le k s (omega arith) in
-    put ∙ ap (λ (n : ℕ). paste d at (take k full) n) long ∙ paste-alike d at (take k full) s k (take-take k k full (omega arith) ∙ same)
 
 -- the first k elements from the m-th on, and the others
 drop-through : (m k : ℕ) (xs : List ℕ) → m ≤ k → k ≤ length xs → drop m (take k xs) ++ drop k xs ≡ drop m xs

@@ -1,13 +1,13 @@
 -- A loop that writes one element or one block each turn pastes them all. Assumes nothing.
 use Prim.Native.Nat.{ℕ, _+_, _-_, _≤_, _<_}
-use mathlib.Core.Path.{_≡_, refl, sym, ap, _∙_}
+use mathlib.Core.Path.{_≡_, refl, ap, _∙_}
 use mathlib.Core.Logic.{_⊎_, inl, inr}
 use mathlib.Core.List.{List}
 use native.Mathlib.Omega.{arith}
 use native.Mathlib.Numerals.{add-one}
 use native.Mathlib.Nat.{add-sub-of-le}
 use lib.ListN.{length, getD, take, drop, set, length-set, length-drop}
-use lib.Seq.{paste, paste-zero, paste-suc, length-paste, length-take-le, getD-take, getD-drop, take-take, drop-drop, ext-getD}
+use lib.Seq.{paste, paste-zero, paste-suc, length-paste, length-take-le, take-take}
 use Rattle.block_put.proofs.Pastes.{paste-out, paste-alike, paste-further}
 
 -- l is d after i of the n turns that write the elements of s from index `at` on
@@ -63,29 +63,7 @@ module _ (d : List ℕ) (at : ℕ) (s : List ℕ) (n : ℕ) where
         (pasted ∙ ap (λ (k : ℕ). paste l (at + i) part k) long) p)
 
     -- what the loop does not write is still as it was
-    pasting-out : {l : List ℕ} {i : ℕ} (k : ℕ) → (k < at) ⊎ (at + n ≤ k) → Pasting d at s n l i → getD l k 0 ≡ getD d k 0
-    pasting-out {l} {i} k out p =
+    pub pasting-out : {l : List ℕ} {i : ℕ} → Pasting d at s n l i → (k : ℕ) → (k < at) ⊎ (at + n ≤ k) → getD l k 0 ≡ getD d k 0
+    pasting-out {l} {i} p k out =
         ap (λ (t : List ℕ). getD t k 0) (p .value)
         ∙ paste-out d at s i (omega arith) (omega arith) k (elim out [ inl before ↦ inl before | inr behind ↦ inr (omega arith) ])
-
-    -- and so is a block of k elements from the m-th on
-    pub pasting-beside : {l : List ℕ} {i : ℕ} (m k : ℕ) → (m + k ≤ at) ⊎ (at + n ≤ m) → m + k ≤ length d → Pasting d at s n l i
-        → take k (drop m l) ≡ take k (drop m d)
-    pasting-beside {l} m k apart inside p =
-        let long = length-take-le k (drop m l) (omega (arith, length-drop m l, p .long)) in
-        let long₀ = length-take-le k (drop m d) (omega (arith, length-drop m d)) in
-        ext-getD 0 (take k (drop m l)) (take k (drop m d)) (long ∙ sym long₀) (λ j below.
-        let h : j < k = omega arith in
-        getD-take k (drop m l) j 0 h ∙ getD-drop m l j 0
-        ∙ pasting-out (m + j) (elim apart [ inl before ↦ inl (omega arith) | inr behind ↦ inr (omega arith) ]) p
-        ∙ sym (getD-take k (drop m d) j 0 h ∙ getD-drop m d j 0))
-
--- the elements of d from `from` on are copied to `at` on, apart from them: after i of the n, the next k
-pub pasting-copy : (d : List ℕ) (from at n : ℕ) (k : ℕ) {l after : List ℕ} {i : ℕ} → from + n ≤ length d → at + n ≤ length d
-    → (from + n ≤ at) ⊎ (at + n ≤ from) → i + k ≤ n → after ≡ paste l (at + i) (drop (from + i) l) k
-    → Pasting d at (drop from d) n l i → Pasting d at (drop from d) n after (i + k)
-pasting-copy d from at n k {l} {after} {i} source target apart more copied p =
-    let enough : n ≤ length (drop from d) = omega (arith, length-drop from d) in
-    let beside : (from + i + k ≤ at) ⊎ (at + n ≤ from + i) = elim apart [ inl before ↦ inl (omega arith) | inr behind ↦ inr (omega arith) ] in
-    let same = pasting-beside d at (drop from d) n target enough (from + i) k beside (omega arith) p in
-    pasting-block d at (drop from d) n target enough (drop (from + i) l) k more (same ∙ ap (take k) (sym (drop-drop i from d))) copied p

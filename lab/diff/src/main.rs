@@ -19,6 +19,7 @@ use std::process::ExitCode;
 use std::time::Instant;
 
 const SOUND_CALLS: u64 = 1_500_000;
+const LENGTH_CALLS: u64 = 4_000;
 const GARBAGE_CALLS: u64 = 3_000_000;
 const HAMMER_CALLS: u64 = 250_000;
 const FAULT_CALLS: u64 = 400_000;
@@ -28,6 +29,11 @@ fn sound_histories(rng: &mut Rng, counts: &mut Counts) -> Result<(), String> {
     let mut seen = Seen::default();
     while counts.total() < SOUND_CALLS {
         sound::random(rng, Fault::Nothing, counts, &mut seen)?;
+    }
+    // Rows of lengths at which the library's copies take another way, and of those beside them.
+    for w in [255, 256, 257, 511, 512, 513, 4_096, 8_191, 8_192] {
+        let s = Settings { n: 6, q: 4, w, k: 3, a: 2, l: 7 };
+        sound::history(rng, &s, LENGTH_CALLS, Fault::Nothing, counts, &mut seen)?;
     }
     // The largest settings of all; few calls, since each compares 537 megabytes.
     let largest = Settings { n: 60_000, q: 5_500, w: 8_192, k: 4_096, a: 2, l: 8_193 };

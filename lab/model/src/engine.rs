@@ -224,7 +224,9 @@ impl Model {
 
     fn copy(&mut self, s: &Settings, from: usize, to: usize) {
         let carried = self.line(s, from).to_vec();
-        self.line(s, to).copy_from_slice(&carried);
+        let short = self.planted(Fault::CopyOneByteShort) || self.planted(Fault::LongestRowCutShort) && s.w == 8_192;
+        let count = carried.len() - usize::from(short);
+        self.line(s, to)[..count].copy_from_slice(&carried[..count]);
     }
 
     fn carry_out(&mut self, s: &Settings, row: usize, plan: Plan, touch: impl FnOnce(&mut [u8])) -> Served {

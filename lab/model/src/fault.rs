@@ -36,9 +36,11 @@ pub enum Fault {
     SpillForNoEstimate,
     EstimateOfAnotherEntry,
     RefusalHasEstimate,
+    CopyOneByteShort,
+    LongestRowCutShort,
 }
 
-pub const FAULTS: [Fault; 32] = [
+pub const FAULTS: [Fault; 34] = [
     Fault::EntryStartsAtOne,
     Fault::OldReverseKept,
     Fault::SentHomeForwardKept,
@@ -71,4 +73,6 @@ pub const FAULTS: [Fault; 32] = [
     Fault::SpillForNoEstimate,
     Fault::EstimateOfAnotherEntry,
     Fault::RefusalHasEstimate,
+    Fault::CopyOneByteShort,
+    Fault::LongestRowCutShort,
 ];
