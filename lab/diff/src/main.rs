@@ -19,7 +19,6 @@ use std::process::ExitCode;
 use std::time::Instant;
 
 const SOUND_CALLS: u64 = 1_500_000;
-const LENGTH_CALLS: u64 = 4_000;
 const GARBAGE_CALLS: u64 = 3_000_000;
 const HAMMER_CALLS: u64 = 250_000;
 const FAULT_CALLS: u64 = 400_000;
@@ -30,11 +29,7 @@ fn sound_histories(rng: &mut Rng, counts: &mut Counts) -> Result<(), String> {
     while counts.total() < SOUND_CALLS {
         sound::random(rng, Fault::Nothing, counts, &mut seen)?;
     }
-    // Rows of lengths at which the library's copies take another way, and of those beside them.
-    for w in [255, 256, 257, 511, 512, 513, 4_096, 8_191, 8_192] {
-        let s = Settings { n: 6, q: 4, w, k: 3, a: 2, l: 7 };
-        sound::history(rng, &s, LENGTH_CALLS, Fault::Nothing, counts, &mut seen)?;
-    }
+    sound::lengths(rng, Fault::Nothing, counts, &mut seen)?;
     // The largest settings of all; few calls, since each compares 537 megabytes.
     let largest = Settings { n: 60_000, q: 5_500, w: 8_192, k: 4_096, a: 2, l: 8_193 };
     sound::history(rng, &largest, 16, Fault::Nothing, counts, &mut seen)?;
@@ -93,6 +88,7 @@ fn planted_faults(seed: u64) -> Result<(), String> {
         while !sound_shows && by_sound.total() < FAULT_CALLS {
             sound_shows = sound::random(rng, fault, &mut by_sound, &mut Seen::default()).is_err();
         }
+        sound_shows = sound_shows || sound::lengths(rng, fault, &mut by_sound, &mut Seen::default()).is_err();
         let mut garbage_shows = false;
         while !garbage_shows && by_garbage.total() < FAULT_CALLS {
             garbage_shows = garbage::case(rng, fault, &mut by_garbage).is_err();
