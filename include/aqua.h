@@ -1,9 +1,10 @@
 /* AQUA row quarantine engine, one rank: the calls for firmware in C.
  *
  * Link target/staticlib/librank.a, which `rt staticlib rank` proves and writes. It is for x86-64 and needs memcpy and
- * memset of the C library. A call needs at most 512 bytes of stack, its arguments and its return address included; this is
- * measured (lab/c/stack.c) and not proved. Every call takes any argument and answers by a number, 0 where it is accepted.
- * A call that is refused leaves the control record, everything lent and the read buffer as they were.
+ * memset of the C library. A call needs at most 512 bytes of stack, its arguments and its return address included, where
+ * memcpy and memset are those of glibc; this is measured (lab/c/stack.c) and not proved. Every call takes any argument and
+ * answers by a number, 0 where it is accepted. A call that is refused leaves the control record, everything lent and the
+ * read buffer as they were.
  *
  * The caller lends, at each call the same memory as the last call left it:
  *   store    (n + q) * w bytes

@@ -1,7 +1,8 @@
 /* Measures the stack that the calls need, and fails where one needs more than the header says. Each call is made on a stack
  * of its own that is filled with a pattern; counted is how far below the caller's frame the pattern is gone. So the
- * arguments and the return address are in it, and what memcpy and memset of the C library need. It is linked with
- * `-z now`: otherwise the first call of each would have the dynamic linker on the stack.
+ * arguments, the caller's place for the answer and the return address are in it, and what memcpy and memset of the C
+ * library need; room that is reserved and never written is not. It is linked with `-z now`: otherwise the first call of
+ * memcpy or memset would have the dynamic linker on the stack.
  *
  * The calls are those of random histories: rows of many lengths are read, written, moved, sent home and inspected, and
  * some calls are refused. */
@@ -17,7 +18,7 @@ enum { STATED = 512 }; /* the header's figure */
 enum { ROOM = 65536, FILLED = 16384, PATTERN = 0xa5 };
 enum { ROWS = 40, SLOTS = 20, LONGEST = 8192, ENTRIES = 200, HISTORIES = 2000, CALLS = 200 };
 
-static uint8_t store[(ROWS + SLOTS) * LONGEST], bytes[LONGEST];
+static uint8_t store[(ROWS + SLOTS) * LONGEST], bytes[LONGEST + 1]; /* one more than a row, for refused reads */
 static uint16_t forward[ROWS], reverse[SLOTS], rows[ENTRIES];
 static uint32_t counts[ENTRIES];
 static aqua_control control;
@@ -144,10 +145,11 @@ int main(void) {
     printf("stack: %u calls accepted, %u refused, %u rows moved, %u sent home\n", accepted, refused, moved, sent_home);
     for (int f = 0; f < FUNCTIONS; f++) {
         printf("stack: %-21s %4zu bytes\n", functions[f].name, most[f]);
-        right &= 0 < most[f] && most[f] <= STATED;
+        if (most[f] > STATED) {
+            fprintf(stderr, "wrong: %s needs more than %d bytes of stack\n", functions[f].name, STATED);
+            right = 0;
+        }
     }
-    if (!right)
-        fprintf(stderr, "wrong: a call needs more than %d bytes of stack\n", STATED);
     if (refused == 0 || sent_home == 0) {
         fprintf(stderr, "wrong: the calls leave out what they are to try\n");
         right = 0;

@@ -15,7 +15,7 @@ use Rattle.block_put.proofs.Pasting.{Pasting, pasting-more, pasting-out}
 abbrev pub Apart : ℕ → ℕ → ℕ → Type 0
 Apart from at n = (from + n ≤ at) ⊎ (at + n ≤ from)
 
--- the one that is not 0 of the two differences is n or more
+-- of the two differences one is 0, and together they are n or more
 pub apart-distance : {from at n : ℕ} → Apart from at n → n ≤ from - at + (at - from)
 apart-distance apart = elim apart [ inl before ↦ omega arith | inr behind ↦ omega arith ]
 

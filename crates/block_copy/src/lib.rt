@@ -5,8 +5,8 @@ ghost use Prim.Native.Nat.{_+_, _≤_};
 ghost use lib.ListN.{length, drop};
 ghost use lib.Seq.{paste};
 
-// A row of the largest W: a count that the compiler knows. In `copy_down` and `copy_up` it also sees that the bytes and
-// their target don't overlap, and makes one move of memory of the loop.
+// The size of a block, that of a row of the largest W: a count that the compiler knows. In `copy_down` and `copy_up` it
+// also sees that the block and its target don't overlap, and makes one move of memory of the loop.
 const BLOCK: usize = 8192;
 
 // Copies n bytes within the store, one by one, to a place apart from them.
@@ -31,8 +31,8 @@ fn copy_down(store: &mut [u8], to: usize, gap: usize)
     copy_each(store, to + BLOCK + gap, to, BLOCK);
 }
 
-// Copies a block up, the last byte first: its target starts `gap` bytes behind its end. The remainder is the gap; it
-// tells the compiler that the sum doesn't wrap.
+// Copies a block up, the last byte first: its target starts `gap` bytes behind its end. The remainder by 2^63 is the
+// gap; it tells the compiler that the gap is below that.
 fn copy_up(store: &mut [u8], from: usize, gap: usize)
     requires { ⌜ from + 8192 + gap + 8192 ≤ length (now store) ⌝ }
     ensures { λ _.

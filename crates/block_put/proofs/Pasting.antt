@@ -38,7 +38,7 @@ module _ (d : List ℕ) (at : ℕ) (s : List ℕ) (n : ℕ) where
         }
 
     -- a block more: the next k elements
-    pub pasting-block : {l after : List ℕ} {i : ℕ} (block : List ℕ) (k : ℕ) → i + k ≤ n → take k block ≡ take k (drop i s) → after ≡ paste l (at + i) block k
+    pasting-block : {l after : List ℕ} {i : ℕ} (block : List ℕ) (k : ℕ) → i + k ≤ n → take k block ≡ take k (drop i s) → after ≡ paste l (at + i) block k
         → Pasting d at s n l i → Pasting d at s n after (i + k)
     pasting-block {l} {after} {i} block k more same pasted p =
         let value : after ≡ paste d at s (i + k) =

@@ -4,7 +4,7 @@ ghost use Prim.Native.Nat.{_+_, _≤_};
 ghost use lib.ListN.{length};
 ghost use lib.Seq.{paste};
 
-// How many bytes are put at once: a count that the compiler knows, and makes straight moves of.
+// The size of a block: a count that the compiler knows, so that it makes moves of 16 bytes of the loop.
 const BLOCK: usize = 256;
 
 // Writes bytes into a part from a column on, one by one.

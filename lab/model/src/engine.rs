@@ -224,7 +224,7 @@ impl Model {
 
     fn copy(&mut self, s: &Settings, from: usize, to: usize) {
         let carried = self.line(s, from).to_vec();
-        let short = self.planted(Fault::CopyOneByteShort) || self.planted(Fault::LongestRowCutShort) && s.w == 8_192;
+        let short = self.planted(Fault::CopyOneByteShort) || (self.planted(Fault::LongestRowCutShort) && s.w == 8_192);
         let count = carried.len() - usize::from(short);
         self.line(s, to)[..count].copy_from_slice(&carried[..count]);
     }
