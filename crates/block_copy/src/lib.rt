@@ -5,9 +5,9 @@ ghost use Prim.Native.Nat.{_+_, _≤_};
 ghost use lib.ListN.{length, drop};
 ghost use lib.Seq.{paste};
 
-// The size of a block, that of a row of the largest W: a count that the compiler knows. In `copy_down` and `copy_up` it
-// also sees that the block and its target don't overlap, and makes one move of memory of the loop.
-const BLOCK: usize = 8192;
+// The size of a block: a count that the compiler knows. In `copy_down` and `copy_up` it also sees that the block and its
+// target don't overlap, and makes one move of memory of the loop.
+const BLOCK: usize = 4096;
 
 // Copies n bytes within the store, one by one, to a place apart from them.
 fn copy_each(store: &mut [u8], from: usize, to: usize, n: usize)
@@ -24,21 +24,20 @@ fn copy_each(store: &mut [u8], from: usize, to: usize, n: usize)
 
 // Copies a block down: it starts `gap` bytes behind its target's end.
 fn copy_down(store: &mut [u8], to: usize, gap: usize)
-    requires { ⌜ to + 8192 + gap + 8192 ≤ length (now store) ⌝ }
+    requires { ⌜ to + 4096 + gap + 4096 ≤ length (now store) ⌝ }
     ensures { λ _.
-        ⌜ now (store .exit) ≡ paste (now (store .entry)) to (drop (to + 8192 + gap) (now (store .entry))) 8192 ⌝ }
+        ⌜ now (store .exit) ≡ paste (now (store .entry)) to (drop (to + 4096 + gap) (now (store .entry))) 4096 ⌝ }
 {
     copy_each(store, to + BLOCK + gap, to, BLOCK);
 }
 
-// Copies a block up, the last byte first: its target starts `gap` bytes behind its end. The remainder by 2^63 is the
-// gap; it tells the compiler that the gap is below that.
+// Copies a block up, the last byte first: its target starts `gap` bytes behind its end.
 fn copy_up(store: &mut [u8], from: usize, gap: usize)
-    requires { ⌜ from + 8192 + gap + 8192 ≤ length (now store) ⌝ }
+    requires { ⌜ from + 4096 + gap + 4096 ≤ length (now store) ⌝ }
     ensures { λ _.
-        ⌜ now (store .exit) ≡ paste (now (store .entry)) (from + 8192 + gap) (drop from (now (store .entry))) 8192 ⌝ }
+        ⌜ now (store .exit) ≡ paste (now (store .entry)) (from + 4096 + gap) (drop from (now (store .entry))) 4096 ⌝ }
 {
-    let to = from + BLOCK + gap % 9223372036854775808;
+    let to = from + BLOCK + gap;
     let mut done: usize = 0;
     while done < BLOCK {
         let k = BLOCK - 1 - done;
@@ -47,17 +46,34 @@ fn copy_up(store: &mut [u8], from: usize, gap: usize)
     }
 }
 
-// Copies n bytes within the store, to a place apart from them.
+// Copies the block that starts `left` bytes behind `from` to the same place behind `to`. From the sign of the distance
+// the compiler sees that the gap of `copy_up` is small, and the sum there doesn't wrap.
+fn copy_block(store: &mut [u8], from: usize, to: usize, left: usize)
+    requires { ⌜
+        (from + left + 4096 ≤ length (now store)) × (to + left + 4096 ≤ length (now store))
+        × ((from + left + 4096 ≤ to) ⊎ (to + left + 4096 ≤ from)) ⌝ }
+    ensures { λ _.
+        ⌜ now (store .exit) ≡ paste (now (store .entry)) (to + left) (drop (from + left) (now (store .entry))) 4096 ⌝ }
+{
+    let source = from + left;
+    let ahead = to as i64 - source as i64;
+    if ahead < 0 {
+        copy_down(store, to + left, source - to - left - BLOCK);
+    } else {
+        copy_up(store, source, ahead as usize + left - BLOCK);
+    }
+}
+
+// Copies n bytes within the store, to a place apart from them: whole blocks from the end on, then what is left.
 pub fn copy_within(store: &mut [u8], from: usize, to: usize, n: usize)
     requires { ⌜
         (from + n ≤ length (now store)) × (to + n ≤ length (now store)) × ((from + n ≤ to) ⊎ (to + n ≤ from)) ⌝ }
     ensures { λ _. ⌜ now (store .exit) ≡ paste (now (store .entry)) to (drop from (now (store .entry))) n ⌝ }
 {
-    if n != BLOCK {
-        copy_each(store, from, to, n);
-    } else if to < from {
-        copy_down(store, to, from - to - BLOCK);
-    } else {
-        copy_up(store, from, to - from - BLOCK);
+    let mut left = n;
+    while BLOCK <= left {
+        left -= BLOCK;
+        copy_block(store, from, to, left);
     }
+    copy_each(store, from, to, left);
 }

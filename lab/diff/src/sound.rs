@@ -256,7 +256,7 @@ pub fn random(rng: &mut Rng, fault: Fault, counts: &mut Counts, seen: &mut Seen)
 
 /// Histories with rows of the lengths at which the library's copies take another way, and of those beside them.
 pub fn lengths(rng: &mut Rng, fault: Fault, counts: &mut Counts, seen: &mut Seen) -> Result<(), String> {
-    for w in [255, 256, 257, 511, 512, 513, 8_191, 8_192] {
+    for w in [255, 256, 257, 511, 512, 513, 4_095, 4_096, 4_097, 8_191, 8_192] {
         let s = Settings { n: 6, q: 4, w, k: 3, a: 2, l: 7 };
         history(rng, &s, 2_000, fault, counts, seen)?;
     }

@@ -1,20 +1,20 @@
 -- `block_copy::copy_up` meets its contract: the loop pastes the block, the last byte first. Assumes nothing.
-use Prim.Native.Nat.{suc, _+_, _-_, _≤_}
+use Prim.Native.Nat.{_+_, _-_, _≤_}
 use mathlib.Core.Path.{_≡_}
 use mathlib.Core.Logic.{inl}
 use native.Mathlib.Omega.{arith}
 use lib.ListN.{drop}
 use borrow.Author.Needs.{needs}
-use Rattle.block_copy.proofs.Copying.{Leaving, leaving-all, leaving-none, copying-less}
+use Rattle.block_copy.proofs.Copying.{Leaving, set-pasted, leaving-all, leaving-none, copying-less}
 use Rattle.block_copy.proofs.copy_up.Statement.{statement}
 use Rattle.block_copy.proofs.copy_up.Tie as tie
 
 abbrev Inv-loop : tie.InvT-loop
 Inv-loop store₀ from gap to done₀ store done =
-    (to ≡ from + 8192 + gap) × (done ≤ 8192) × Leaving store₀ to (drop from store₀) 8192 store (8192 - done)
+    (done ≤ 4096) × Leaving store₀ to (drop from store₀) 4096 store (4096 - done)
 
 abbrev μ-loop : tie.MeasureT-loop
-μ-loop store₀ from gap to done₀ store done = 8192 - done
+μ-loop store₀ from gap to done₀ store done = 4096 - done
 
 add-to : tie.Need-add-to Inv-loop μ-loop
 add-to c = search needs
@@ -23,7 +23,7 @@ add-to-2 : tie.Need-add-to-2 Inv-loop μ-loop
 add-to-2 c = search needs
 
 loop-holds : tie.Need-loop-holds Inv-loop μ-loop
-loop-holds c = (omega arith, search needs, leaving-all _ _ _ _)
+loop-holds c = (search needs, leaving-all _ _ _ _)
 
 sub-k : tie.Need-sub-k Inv-loop μ-loop
 sub-k c = search needs
@@ -53,11 +53,13 @@ loop-again : tie.Need-loop-again Inv-loop μ-loop
 loop-again c =
     let a = c .before .before .before .args in
     let l = c .before .before .loop in
-    let k = 8192 - 1 - l .done in
-    let now : 8192 - l .done ≡ suc k = omega arith in
-    let next : 8192 - (l .done + 1) ≡ k = omega arith in
-    let less = copying-less (a .store .now) (a .from) _ 8192 (search needs) (search needs) (inl (omega arith)) k (rw now at (l .inv .2)) in
-    (l .inv .0, search needs, rw next less)
+    let k = 4096 - 1 - l .done in
+    let now : 4096 - l .done ≡ k + 1 = omega arith in
+    let next : 4096 - (l .done + 1) ≡ k = omega arith in
+    let to = a .from + 4096 + a .gap in
+    let less = copying-less (a .store .now) (a .from) to 4096 (search needs) (search needs) (inl (omega arith)) k 1
+    (set-pasted (l .store) (to + k) (l .store) (a .from + k) (omega arith) (omega arith)) (rw now at (l .inv .1)) in
+    (search needs, rw next less)
 
 same-length : tie.Need-same-length Inv-loop μ-loop
 same-length c = search needs
@@ -65,8 +67,8 @@ same-length c = search needs
 returns : tie.Need-returns Inv-loop μ-loop
 returns c =
     let l = c .before .loop in
-    let none : 8192 - l .done ≡ 0 = omega arith in
-    rw (l .inv .0) at (leaving-none (c .before .before .args .store .now) _ _ 8192 (rw none at (l .inv .2)))
+    let none : 4096 - l .done ≡ 0 = omega arith in
+    leaving-none (c .before .before .args .store .now) _ _ 4096 (rw none at (l .inv .1))
 
 pub copy-up-spec : {M : Type 1} → statement M
 copy-up-spec =

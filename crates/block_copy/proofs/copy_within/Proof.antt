@@ -1,71 +1,65 @@
--- `block_copy::copy_within` meets its contract: the gap is what lies between the block and its target. Assumes nothing.
+-- `block_copy::copy_within` meets its contract: each turn copies the last block of what is left, and the rest comes last.
+-- Assumes nothing.
 use Prim.Native.Nat.{_+_, _-_}
-use mathlib.Core.Path.{_≡_}
+use mathlib.Core.Path.{_≡_, subst}
+use mathlib.Core.Logic.{inl, inr}
 use native.Mathlib.Omega.{arith}
+use lib.ListN.{drop}
 use borrow.Author.Needs.{needs}
-use Rattle.block_copy.proofs.Copying.{apart-distance}
+use Rattle.block_copy.proofs.Copying.{Leaving, leaving-all, copying-less, copying-rest}
 use Rattle.block_copy.proofs.copy_within.Statement.{statement}
 use Rattle.block_copy.proofs.copy_within.Tie as tie
 
-copy-each-requires : tie.Need-copy-each-requires
-copy-each-requires c κs = search needs
+abbrev Inv-loop : tie.InvT-loop
+Inv-loop store₀ from to n left₀ store left = Leaving store₀ to (drop from store₀) n store left
 
-sub-copy-down : tie.Need-sub-copy-down
-sub-copy-down c = search needs
+abbrev μ-loop : tie.MeasureT-loop
+μ-loop store₀ from to n left₀ store left = left
 
-sub-copy-down-2 : tie.Need-sub-copy-down-2
-sub-copy-down-2 c = omega (arith, apart-distance (c .before .before .before .before .pre .2))
+loop-holds : tie.Need-loop-holds Inv-loop μ-loop
+loop-holds c = leaving-all _ _ _ _
 
-copy-down-requires : tie.Need-copy-down-requires
-copy-down-requires c κs = omega (arith, apart-distance (c .before .before .before .before .pre .2))
+copy-block-requires : tie.Need-copy-block-requires Inv-loop μ-loop
+copy-block-requires c κs =
+    (omega arith, omega arith, elim (c .before .before .before .before .pre .2) [ inl before ↦ inl (omega arith) | inr behind ↦ inr (omega arith) ])
 
-sub-copy-up : tie.Need-sub-copy-up
-sub-copy-up c = omega (arith, apart-distance (c .before .before .before .before .pre .2))
+loop-less : tie.Need-loop-less Inv-loop μ-loop
+loop-less c = omega arith
 
-copy-up-requires : tie.Need-copy-up-requires
-copy-up-requires c κs = omega (arith, apart-distance (c .before .before .before .before .pre .2))
+loop-again : tie.Need-loop-again Inv-loop μ-loop
+loop-again c =
+    let l = c .before .before .before .before .before .loop in
+    let a = c .before .before .before .before .before .before .before .args in
+    let pre = c .before .before .before .before .before .before .before .pre in
+    let store = a .store .now in
+    let e : l .left ≡ l .left - 4096 + 4096 = omega arith in
+    copying-less store (a .from) (a .to) (a .n) (pre .0) (pre .1) (pre .2) (l .left - 4096) 4096 (c .before .before .copy-block .ensures)
+    (subst (Leaving store (a .to) (drop (a .from) store) (a .n) (l .store)) e (l .inv))
 
-same-length : tie.Need-same-length
+copy-each-requires : tie.Need-copy-each-requires Inv-loop μ-loop
+copy-each-requires c κs =
+    (omega arith, omega arith, elim (c .before .before .before .before .pre .2) [ inl before ↦ inl (omega arith) | inr behind ↦ inr (omega arith) ])
+
+same-length : tie.Need-same-length Inv-loop μ-loop
 same-length c = search needs
 
-returns : tie.Need-returns
-returns c = search needs
-
-same-length-2 : tie.Need-same-length-2
-same-length-2 c = search needs
-
-returns-2 : tie.Need-returns-2
-returns-2 c =
-    let p = c .before .before .before .before .before .before .before in
-    let a = p .args in
-    let block : a .n ≡ 8192 = omega arith in
-    let source : a .to + 8192 + (a .from - a .to - 8192) ≡ a .from = omega (arith, apart-distance (p .pre .2)) in
-    rw block (rw source at (c .before .before .copy-down .ensures))
-
-same-length-3 : tie.Need-same-length-3
-same-length-3 c = search needs
-
-returns-3 : tie.Need-returns-3
-returns-3 c =
-    let p = c .before .before .before .before .before .before .before in
-    let a = p .args in
-    let block : a .n ≡ 8192 = omega arith in
-    let target : a .from + 8192 + (a .to - a .from - 8192) ≡ a .to = omega (arith, apart-distance (p .pre .2)) in
-    rw block (rw target at (c .before .before .copy-up .ensures))
+returns : tie.Need-returns Inv-loop μ-loop
+returns c =
+    let a = c .before .before .before .before .before .before .before .args in
+    let pre = c .before .before .before .before .before .before .before .pre in
+    copying-rest (a .store .now) (a .from) (a .to) (a .n) (pre .0) (pre .1) (pre .2) (c .before .before .before .before .before .loop .inv)
+    (c .before .before .copy-each .ensures)
 
 pub copy-within-spec : {M : Type 1} → statement M
 copy-within-spec =
     tie.close
     (tie.spec
+    Inv-loop
+    μ-loop
+    loop-holds
+    copy-block-requires
+    loop-less
+    loop-again
     copy-each-requires
-    sub-copy-down
-    sub-copy-down-2
-    copy-down-requires
-    sub-copy-up
-    copy-up-requires
     same-length
-    returns
-    same-length-2
-    returns-2
-    same-length-3
-    returns-3)
+    returns)
