@@ -1,23 +1,19 @@
--- A loop that copies within one list, to a place apart from what it reads, pastes what stood there at its start, whether the
--- first element comes first or the last. Assumes nothing.
-use Prim.Native.Nat.{ℕ, suc, _+_, _-_, _≤_, _<_}
+-- A loop that copies within one list, to a place apart from what it reads, pastes what stood there at its start, whether it
+-- goes from the first element to the last or, by elements or by blocks, from the last to the first. Assumes nothing.
+use Prim.Native.Nat.{ℕ, _+_, _≤_, _<_}
 use mathlib.Core.Path.{_≡_, refl, sym, ap, _∙_}
 use mathlib.Core.Logic.{_⊎_, inl, inr}
 use mathlib.Core.List.{List, _++_, append-assoc}
 use native.Mathlib.Omega.{arith}
 use native.Mathlib.Nat.{add-assoc, add-zero}
-use lib.ListN.{length, getD, take, drop, set, length-set, length-drop}
+use lib.ListN.{length, getD, take, drop, set, length-drop}
 use lib.Seq.{paste, paste-zero, paste-suc, length-paste, length-take-le, getD-take, getD-drop, take-take, take-add, take-append-le, drop-at, ext-getD}
 use Rattle.block_put.proofs.Pastes.{paste-out, paste-alike}
 use Rattle.block_put.proofs.Pasting.{Pasting, pasting-more, pasting-out}
 
 -- n elements from `from` on and n from `at` on do not overlap
-abbrev pub Apart : ℕ → ℕ → ℕ → Type 0
+abbrev Apart : ℕ → ℕ → ℕ → Type 0
 Apart from at n = (from + n ≤ at) ⊎ (at + n ≤ from)
-
--- of the two differences one is 0, and together they are n or more
-pub apart-distance : {from at n : ℕ} → Apart from at n → n ≤ from - at + (at - from)
-apart-distance apart = elim apart [ inl before ↦ omega arith | inr behind ↦ omega arith ]
 
 -- the last m of k + m elements are pasted first, and the others then
 paste-behind : (l : List ℕ) (at : ℕ) (s : List ℕ) (k m : ℕ) → at + k ≤ length l

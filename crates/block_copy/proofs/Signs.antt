@@ -46,5 +46,5 @@ module _ (a b : ℕ) (low : a < 2 ^ 63) (high : b < 2 ^ 63) where
   negative e =
       elim (lt? a b) [ inl h ↦ h | inr h ↦ absurd (omega (arith, ltb-true (a - b) 0 (rw (stored-behind h) at e))) ]
 
-  pub positive : ltZ (toZ w64 (ofZ w64 (toZ w64 a -ℤ toZ w64 b))) (pos 0) ≡ false → b ≤ a
-  positive e = elim (lt? a b) [ inl h ↦ absurd (true≢false (rw (stored-before h) at e)) | inr h ↦ h ]
+  pub not-negative : ltZ (toZ w64 (ofZ w64 (toZ w64 a -ℤ toZ w64 b))) (pos 0) ≡ false → b ≤ a
+  not-negative e = elim (lt? a b) [ inl h ↦ absurd (true≢false (rw (stored-before h) at e)) | inr h ↦ h ]

@@ -8,7 +8,7 @@ use lib.IntN.{_-ℤ_, natAbs}
 use mir.Syntax.{w64}
 use mir.Val.{toZ, ofZ}
 use borrow.Author.Needs.{needs}
-use Rattle.block_copy.proofs.Signs.{difference-fits, stored-behind, negative, positive}
+use Rattle.block_copy.proofs.Signs.{difference-fits, stored-behind, negative, not-negative}
 use Rattle.block_copy.proofs.copy_block.Statement.{statement}
 use Rattle.block_copy.proofs.copy_block.Tie as tie
 
@@ -54,7 +54,7 @@ module _ (p : tie.After-copy-up-arg) where
   behind : let a = p .before .before .before .args in a .from + a .left ≤ a .to
   behind =
       let a = p .before .before .before .args in
-      positive (a .to) (a .from + a .left) (omega arith) (omega arith) (p .before .if1 .left)
+      not-negative (a .to) (a .from + a .left) (omega arith) (omega arith) (p .before .if1 .left)
 
   up : let a = p .before .before .before .args in a .from + a .left + 4096 ≤ a .to
   up = elim (p .before .before .before .pre .2) [ inl before ↦ before | inr other ↦ omega (arith, behind) ]
