@@ -1,10 +1,10 @@
 /* AQUA row quarantine engine, one rank: the calls for firmware in C.
  *
  * Link target/staticlib/librank.a, which `rt staticlib rank` proves and writes. It is for x86-64 and needs memcpy and
- * memset of the C library. A call needs at most 512 bytes of stack, its arguments and its return address included, where
- * memcpy and memset are those of glibc; this is measured (lab/c/stack.c) and not proved. Every call takes any argument and
- * answers by a number, 0 where it is accepted. A call that is refused leaves the control record, everything lent and the
- * read buffer as they were.
+ * memset of the C library. A read or a write needs at most 6,400 bytes of stack, its arguments and its return address
+ * included, and every other call at most 512, where memcpy and memset are those of glibc; this is measured (lab/c/stack.c)
+ * and not proved. Every call takes any argument and answers by a number, 0 where it is accepted. A call that is refused
+ * leaves the control record, everything lent and the read buffer as they were.
  *
  * The caller lends, at each call the same memory as the last call left it:
  *   store    (n + q) * w bytes
@@ -20,7 +20,7 @@
  *   5  the row is n or more                  6  the read buffer is not w long, or the write runs past w
  *   7  the pointers of the row, or of the slot that it would move to, are unsound
  *   8  l accesses were accepted in this epoch
- *   9  the row would have to move and no slot is left in this epoch
+ *   9  the row would have to move, and in this epoch each slot is gone by or worn (below)
  */
 #ifndef AQUA_H
 #define AQUA_H
@@ -44,10 +44,12 @@ typedef struct {
     uint32_t l; /* accesses allowed per epoch, 1 to 1,360,000; less than a * (k + 1) */
 } aqua_settings;
 
-/* The control record. Only the calls write it. */
+/* The control record. Only the calls write it. A row that moves goes to the first slot from head on, round q, that is not
+ * worn, and head goes by the worn ones and by that slot. A slot is worn where the lowest tracker entry that names its
+ * physical row, n + slot, has a count of a or more once the access is counted; the slot that the row leaves always is. */
 typedef struct {
     uint32_t head;   /* next slot */
-    uint32_t passed; /* slots the head has gone by this epoch */
+    uint32_t passed; /* slots the head has gone by this epoch, the worn ones among them */
     uint32_t spill;
     uint32_t acts; /* accepted accesses this epoch */
 } aqua_control;

@@ -57,8 +57,8 @@ static void session(void) {
     memset(counts, 7, sizeof counts);
     memset(&control, 7, sizeof control);
     expect(set_up(settings) == 0, "set-up is accepted");
-    /* the estimate of each step: 0 where only spill rises (5, 12), in a refusal (6, 17), and at a tick (7, 13) */
-    static const uint32_t estimates[] = {1, 2, 1, 2, 0, 0, 0, 1, 2, 1, 2, 0, 0, 1, 2, 1, 0};
+    /* the estimate of each step: 0 where only spill rises (5, 12), in a refusal (6, 11), and at a tick (7, 13) */
+    static const uint32_t estimates[] = {1, 2, 1, 2, 0, 0, 0, 1, 2, 1, 0, 0, 0, 1, 2, 1, 2};
     while (scanf("%u", &row) == 1) {
         printf("%u", ++step);
         if (row == TICK) {

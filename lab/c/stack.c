@@ -5,7 +5,8 @@
  * memcpy or memset would have the dynamic linker on the stack.
  *
  * The calls are those of random histories: rows of many lengths are read, written, moved, sent home and inspected, and
- * some calls are refused. */
+ * some calls are refused. In some histories rows move past runs of worn slots, for which the library's search takes another
+ * way after the sixteenth, or find nothing after a run; runs have up to 2,750 slots, with the most slots and entries. */
 #include <stdio.h>
 #include <stdlib.h>
 #include <string.h>
@@ -13,14 +14,15 @@
 
 #include "aqua.h"
 
-enum { STATED = 512 }; /* the header's figure */
+enum { STATED = 512, STATED_ACCESS = 6400 }; /* the header's figures; the second is that of reads and writes */
 
 enum { ROOM = 65536, FILLED = 16384, PATTERN = 0xa5 };
 enum { ROWS = 40, SLOTS = 20, LONGEST = 8192, ENTRIES = 200, HISTORIES = 2000, CALLS = 200 };
+enum { MOST_ROWS = 5500, MOST_SLOTS = 5500, MOST_ENTRIES = 4096, MANY = 16 };
 
 static uint8_t store[(ROWS + SLOTS) * LONGEST], bytes[LONGEST + 1]; /* one more than a row, for refused reads */
-static uint16_t forward[ROWS], reverse[SLOTS], rows[ENTRIES];
-static uint32_t counts[ENTRIES];
+static uint16_t forward[MOST_ROWS], reverse[MOST_SLOTS], rows[MOST_ENTRIES];
+static uint32_t counts[MOST_ENTRIES];
 static aqua_control control;
 static aqua_settings s;
 
@@ -32,6 +34,7 @@ static aqua_span span;
 static aqua_sum sum;
 
 static uint32_t accepted, refused, moved, sent_home; /* how many of the calls */
+static uint32_t past_many, none_left;                /* moves past more than MANY slots, and 9 after as many */
 
 #define LENT store, store_length, forward, s.n, reverse, s.q, rows, s.k, counts, s.k
 
@@ -71,6 +74,7 @@ static ucontext_t here, there;
 
 static void measure(int function) {
     uint8_t *from = stack + ROOM - FILLED, *lowest = from;
+    uint32_t passed = control.passed;
     memset(from, PATTERN, FILLED);
     getcontext(&there);
     there.uc_stack.ss_sp = stack;
@@ -90,7 +94,10 @@ static void measure(int function) {
     if (number == 0 && (function == READ || function == WRITE)) {
         moved += outcome.slot != AQUA_NONE;
         sent_home += outcome.row != AQUA_NONE;
+        past_many += outcome.slot != AQUA_NONE && control.passed - passed > MANY + 1;
     }
+    if (number == 9)
+        none_left += s.q - passed > MANY;
 }
 
 static uint32_t below(uint32_t n) {
@@ -138,19 +145,53 @@ static void history(void) {
     }
 }
 
+static void access_row(uint32_t which) {
+    row = which;
+    length = s.w;
+    column = 0;
+    measure(below(2) ? READ : WRITE);
+}
+
+/* With A = 1 each access moves its row. Rows 0 to q - 1 fill the slots. Then those in the slots from half on leave them
+ * worn, but for the last `spared` slots, for the slots from 0 on. Other rows take what is left before the worn slots, and
+ * go past these; where none was spared, that is a 9. */
+static void worn(uint32_t q, uint32_t w, uint32_t k, uint32_t spared) {
+    uint32_t half = q / 2;
+    s = (aqua_settings){.n = q, .q = q, .w = w, .k = k, .a = 1, .l = k};
+    store_length = (size_t)(s.n + s.q) * s.w;
+    measure(SET_UP);
+    for (uint32_t i = 0; i < q; i++) {
+        if (control.acts == s.l)
+            measure(TICK);
+        access_row(i);
+    }
+    measure(TICK);
+    for (uint32_t i = half; i < q - spared; i++)
+        access_row(i);
+    for (uint32_t i = 0; i < spared + 2; i++)
+        access_row(i);
+}
+
 int main(void) {
     int right = 1;
     for (int i = 0; i < HISTORIES; i++)
         history();
+    for (uint32_t i = 0; i < 100; i++)
+        worn(36 + i % 23, i % 3 ? 1 : LONGEST / 2, ENTRIES, i % 4);
+    for (uint32_t spared = 0; spared < 3; spared++)
+        worn(MOST_SLOTS, 1, MOST_ENTRIES, spared);
     printf("stack: %u calls accepted, %u refused, %u rows moved, %u sent home\n", accepted, refused, moved, sent_home);
+    printf("stack: %u rows moved past more than %d slots, %u refused with 9 while more than %d were left\n", past_many,
+           MANY, none_left, MANY);
     for (int f = 0; f < FUNCTIONS; f++) {
+        int stated = f == READ || f == WRITE ? STATED_ACCESS : STATED;
         printf("stack: %-21s %4zu bytes\n", functions[f].name, most[f]);
-        if (most[f] > STATED) {
-            fprintf(stderr, "wrong: %s needs more than %d bytes of stack\n", functions[f].name, STATED);
+        if (most[f] > (size_t)stated) {
+            fprintf(stderr, "wrong: %s needs more than %d bytes of stack\n", functions[f].name, stated);
             right = 0;
         }
     }
-    if (refused == 0 || sent_home == 0) {
+    if (refused == 0 || sent_home == 0 || past_many == 0 || none_left == 0) {
         fprintf(stderr, "wrong: the calls leave out what they are to try\n");
         right = 0;
     }

@@ -20,20 +20,22 @@ use Rattle.conditions.proofs.Facts.{Ranges, Exact, ranges-facts, lengths-facts}
 use Rattle.tracking.specs.declared.Choice.{Choice}
 use Rattle.scan.specs.Scan.{some}
 use Rattle.tracking.specs.Track.{isDue}
-use Rattle.tracking.specs.Choice.{choiceOf, estimateBy}
-use Rattle.tracking.proofs.Choices.{estimate-choice, within-choice, within-choice-rows}
+use Rattle.tracking.specs.Choice.{choiceOf, estimateBy, entryBy}
+use Rattle.tracking.proofs.Choices.{estimate-choice, within-choice, within-choice-rows, entry-within}
 use Rattle.row_layout.proofs.Laws.{row-before}
 use Rattle.engine.specs.State.{State, ringOf, storageOf, lengthsOf, forwardOf, reverseOf}
-use Rattle.engine.specs.Steps.{placeBy, place, tracked, moves, destination, riseTo, rise}
+use Rattle.engine.specs.Steps.{placeBy, place, tracked, moves, skipped, destination, riseTo, rise}
 use Rattle.engine.specs.Ladder.{rowNumber, tickNumber, accessNumber}
 use Rattle.engine.proofs.Rungs.{pass}
 use Rattle.engine.proofs.Facts.{pointersHold, row-facts, Accepted, accepted, Steady, steady, row-sound, slot-sound, place-below, RowSound}
-use Rattle.engine.proofs.Moves.{destination-in, destination-free}
+use Rattle.engine.proofs.Moves.{destination-in, slide, rise-to, not-own}
+use Rattle.seek.specs.Seeking.{skippedBefore, Seekable}
+use Rattle.seek.proofs.Before.{skipped-before}
 use Rattle.verdict.specs.declared.Verdict.{Verdict}
 use Rattle.verdict.specs.declared.Verdict.the-variants.{Go}
 use Rattle.verdict.specs.Verdicts.{lateVerdict, judgementOf}
 use Rattle.ladder.proofs.Stages.{earlyNumber, Checked, checked}
-use Rattle.verdict.proofs.Judged.{late-is}
+use Rattle.verdict.proofs.Judged.{late-over, late-is}
 use Rattle.settle.specs.Settling.{Movable}
 use Rattle.access.specs.Serving.{Countable}
 use Rattle.access.proofs.Verdicts.{go-tells}
@@ -56,8 +58,8 @@ module _ {S : Settings} {σ : State} {r : ℕ} {off : Bool} (E : Early S σ r of
   pub row-small : r < 60000
   row-small = omega (arith, row-holds .0, fits .ranges .n-high)
 
-  pub decidable : (1 ≤ S .a) × (length (σ .forward) ≡ S .n) × (length (σ .reverse) ≡ S .q) × (σ .control .head < S .q) × (σ .control .passed ≤ S .q) × (S .q ≤ 5500)
-  decidable = (fits .ranges .a-low, fits .lengths .forward, fits .lengths .reverse, fits .steady .head-in, fits .steady .passed-in, fits .ranges .q-high)
+  same-long : length (σ .rows) ≡ length (σ .counts)
+  same-long = fits .lengths .rows ∙ sym (fits .lengths .counts)
 
   -- e and p: the row's forward entry and place, as the code has them
   module _ {e : ForwardEntry} (entered : e .0 ≡ forwardOf σ r) {p : PhysicalRow} (placed : p ≡ physical (placeBy S (e .0) r)) where
@@ -67,10 +69,48 @@ module _ {S : Settings} {σ : State} {r : ℕ} {off : Bool} (E : Early S σ r of
     pub choosable : (p .0 < 65536) × (length (σ .rows) ≡ length (σ .counts)) × (some (λ count. ltb 4294967294 count) (σ .counts) ≡ false) × (σ .control .spill < 4294967295)
     choosable = (
       rw place-is (omega (arith, place-below S σ r (fits .ranges) (row-holds .0) (row-holds .2), fits .ranges .n-high, fits .ranges .q-high)),
-      fits .lengths .rows ∙ sym (fits .lengths .counts),
+      same-long,
       fits .counts,
       omega (arith, fits .steady .spill-in, fits .steady .acts-in, fits .ranges .l-high),
     )
+
+    -- way: the way that step 2 goes, as the code has it
+    module _ {way : Choice} (chosen : way ≡ choiceOf (p .0) (σ .rows) (σ .counts) (σ .control .spill)) where
+      way-is : way ≡ choiceOf (place S σ r) (σ .rows) (σ .counts) (σ .control .spill)
+      way-is = chosen ∙ ap (λ (x : PhysicalRow). choiceOf (x .0) (σ .rows) (σ .counts) (σ .control .spill)) place-is
+
+      estimate-is : estimateBy way ≡ tracked S σ r .estimate
+      estimate-is = ap estimateBy way-is ∙ estimate-choice (place S σ r) (σ .rows) (σ .counts) (σ .control .spill)
+
+      entry-in : entryBy way < length (σ .rows)
+      entry-in =
+          rw way-is
+          (entry-within (length (σ .rows)) (choiceOf (place S σ r) (σ .rows) (σ .counts) (σ .control .spill))
+          (omega (arith, fits .lengths .rows, fits .ranges .k-low))
+          (within-choice-rows (place S σ r) (σ .rows) (σ .counts) (σ .control .spill) same-long))
+
+      pub decidable : (1 ≤ S .a) × Seekable S (entryBy way) (σ .rows) (σ .counts) × (length (σ .forward) ≡ S .n) × (length (σ .reverse) ≡ S .q)
+          × (σ .control .head < S .q) × (σ .control .passed ≤ S .q)
+      decidable = (
+        fits .ranges .a-low,
+        record {
+          slots-few = fits .ranges .q-high;
+          rows-few = fits .ranges .n-high;
+          same-long = same-long;
+          within = entry-in;
+        },
+        fits .lengths .forward,
+        fits .lengths .reverse,
+        fits .steady .head-in,
+        fits .steady .passed-in,
+      )
+
+      -- the slots that the head skips, as the code finds them
+      over-is : isDue (S .a) (estimateBy way) ≡ true
+          → skippedBefore S (σ .control .head) (e .0) (entryBy way) (σ .rows) (σ .counts) ≡ skipped S σ r
+      over-is due =
+          rw (entered, way-is)
+          (skipped-before S σ r (row-holds .0) (fits .ranges .n-high) (fits .ranges .q-high) same-long (rw estimate-is at due) (fits .steady .head-in))
 
 -- ---- the verdict
 
@@ -81,24 +121,20 @@ pub record Found (S : Settings) (σ : State) (r : ℕ) (off : Bool) (e : Forward
   pub chosen : way ≡ choiceOf (place S σ r) (σ .rows) (σ .counts) (σ .control .spill)
   pub decided : v ≡ judgementOf S σ r off
 
-pub found : {S : Settings} {σ : State} {r : ℕ} {off : Bool} {e : ForwardEntry} {p : PhysicalRow} {way : Choice} {estimate : ℕ} {v : Verdict}
+pub found : {S : Settings} {σ : State} {r : ℕ} {off : Bool} {e : ForwardEntry} {p : PhysicalRow} {way : Choice} {v : Verdict}
     → Early S σ r off → e .0 ≡ forwardOf σ r → p ≡ physical (placeBy S (e .0) r)
-    → way ≡ choiceOf (p .0) (σ .rows) (σ .counts) (σ .control .spill) → estimate ≡ estimateBy way
-    → v ≡ lateVerdict S (ringOf (σ .control)) (σ .control .acts) (σ .forward) (σ .reverse) (e .0) (isDue (S .a) estimate)
+    → way ≡ choiceOf (p .0) (σ .rows) (σ .counts) (σ .control .spill)
+    → v ≡ lateVerdict S (ringOf (σ .control)) (σ .control .acts) (σ .forward) (σ .reverse)
+    (skippedBefore S (σ .control .head) (e .0) (entryBy way) (σ .rows) (σ .counts)) (isDue (S .a) (estimateBy way))
     → Found S σ r off e p way v
-found {S} {σ} {r} {off} {e} {p} {way} {estimate} early entered placed chosen estimated decided =
-    let at : p ≡ physical (place S σ r) = place-is early entered placed in
-    let way-is : way ≡ choiceOf (place S σ r) (σ .rows) (σ .counts) (σ .control .spill) =
-    chosen ∙ ap (λ (x : PhysicalRow). choiceOf (x .0) (σ .rows) (σ .counts) (σ .control .spill)) at in
-    let estimate-is : estimate ≡ tracked S σ r .estimate =
-    estimated ∙ ap estimateBy way-is ∙ estimate-choice (place S σ r) (σ .rows) (σ .counts) (σ .control .spill) in
+found {S} {σ} {r} {off} {e} {p} {way} early entered placed chosen decided =
     record {
       entered = entered;
-      placed = at;
-      chosen = way-is;
+      placed = place-is early entered placed;
+      chosen = way-is early entered placed chosen;
       decided = decided
-          ∙ ap (λ (x : ℕ). lateVerdict S (ringOf (σ .control)) (σ .control .acts) (σ .forward) (σ .reverse) x (isDue (S .a) estimate)) entered
-          ∙ ap (λ (x : ℕ). lateVerdict S (ringOf (σ .control)) (σ .control .acts) (σ .forward) (σ .reverse) (forwardOf σ r) (isDue (S .a) x)) estimate-is
+          ∙ late-over S (ringOf (σ .control)) (σ .control .acts) (σ .forward) (σ .reverse) _ (skipped S σ r) (isDue (S .a) (estimateBy way)) (over-is early entered placed chosen)
+          ∙ ap (λ (x : ℕ). lateVerdict S (ringOf (σ .control)) (σ .control .acts) (σ .forward) (σ .reverse) (skipped S σ r) (isDue (S .a) x)) (estimate-is early entered placed chosen)
           ∙ late-is S σ r off (early .is-0);
     }
 
@@ -163,7 +199,7 @@ module _ {S : Settings} {σ : State} {r : ℕ} {off : Bool} {e : ForwardEntry} {
       let rises : up ≡ rise S σ r = t .4 in
       let at : p .0 ≡ place S σ r = ap (λ (x : PhysicalRow). x .0) (F .placed) in
       let room : σ .control .passed + rise S σ r ≤ S .q = A .room (t .1) in
-      let free : destination S σ r ≡ forwardOf σ r → ⊥ = destination-free S (σ .control .head) (forwardOf σ r) (R .q-low) (K .head-in) in
+      let free : destination S σ r ≡ forwardOf σ r → ⊥ = not-own S σ r (destination S σ r) (slide S σ r (K .head-in) room .free) in
       record {
         sendable = record {
           ranges = A .reached .fit .ranges;
@@ -181,6 +217,6 @@ module _ {S : Settings} {σ : State} {r : ℕ} {off : Bool} {e : ForwardEntry} {
           | inl a ↦ omega (arith, away a, at)
           | inr c ↦ free (omega (arith, in-slot (c .0), at, to))
         ];
-        rise-is = rises ∙ sym (ap (λ (x : ℕ). riseTo S (σ .control .head) x) to);
+        rise-is = rises ∙ sym (rise-to S σ r (K .head-in) room) ∙ sym (ap (λ (x : ℕ). riseTo S (σ .control .head) x) to);
         room = omega (arith, room, rises);
       }

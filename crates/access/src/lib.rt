@@ -190,8 +190,17 @@ pub fn read(
     }
     let place = verdict::place(s, VisibleRow(row as u16), entry);
     let choice = tracker::choose(place, rows, counts, control.spill);
-    let estimate = tracker::estimate(choice);
-    let verdict = verdict::decide(s, ring, control.acts, entry, estimate, forward, reverse);
+    let verdict = verdict::decide(
+        s,
+        ring,
+        control.acts,
+        entry,
+        choice,
+        forward,
+        reverse,
+        rows,
+        counts,
+    );
     match verdict {
         Verdict::Stop(last) => refused(control, last),
         Verdict::Stay => {
@@ -266,8 +275,17 @@ pub fn write(
     }
     let place = verdict::place(s, VisibleRow(row as u16), entry);
     let choice = tracker::choose(place, rows, counts, control.spill);
-    let estimate = tracker::estimate(choice);
-    let verdict = verdict::decide(s, ring, control.acts, entry, estimate, forward, reverse);
+    let verdict = verdict::decide(
+        s,
+        ring,
+        control.acts,
+        entry,
+        choice,
+        forward,
+        reverse,
+        rows,
+        counts,
+    );
     match verdict {
         Verdict::Stop(last) => refused(control, last),
         Verdict::Stay => {

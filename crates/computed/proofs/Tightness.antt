@@ -1,5 +1,5 @@
--- No figure of demand 3 can be lowered: for A = 1, 2 and 3, histories that reach it, computed by the definitions. In each a row
--- is read A times on end, and with the last of them it is quarantined.
+-- No figure of demand 3 can be lowered: for A = 1, 2 and 3, histories that reach it, computed by the definitions. With the A-th
+-- of its reads on end a row is quarantined.
 -- Assumes nothing.
 use Prim.Native.Nat.{ℕ, _+_, _-_, _*_, _/_}
 use mathlib.Core.Path.{_≡_, refl}
@@ -26,33 +26,32 @@ epochsOf S steps = epochs S start start (map reportOf (traced S steps))
 
 -- ---- a home row is opened A + 2 times: it gets its row back, is read A times, and is copied away
 
-abbrev pub homeSettings : ℕ → Settings
-homeSettings a = settingsOf 2 2 1 2 a (3 * a - 1)
+-- two slots, and two quarantines in an epoch
+abbrev pub twoSlots : ℕ → Settings
+twoSlots a = settingsOf 3 2 1 2 a (2 * a)
 
--- rows 1 and 0 go to slots 0 and 1; in the next epoch row 0 goes to slot 0, so that row 1 is sent home, and then row 1 to slot 1
+-- rows 0 and 1 go to slots 0 and 1; in the next epoch row 2 goes to slot 0, so that row 0 is sent home, and then row 0 to slot 1
 abbrev pub homeSteps : ℕ → List ℕ
-homeSteps a = often a (1 ∷ 0 ∷ []) ++ 65535 ∷ often a (0 ∷ 1 ∷ [])
+homeSteps a = often a (0 ∷ 1 ∷ []) ++ 65535 ∷ often a (2 ∷ 0 ∷ [])
 
--- the openings of row 1's home, epoch by epoch
+-- the openings of row 0's home, epoch by epoch
 pub home-reached :
-    map (λ a. map (λ e. openingsIn e (homeRow 1)) (epochsOf (homeSettings a) (homeSteps a))) thresholds
+    map (λ a. map (λ e. openingsIn e (homeRow 0)) (epochsOf (twoSlots a) (homeSteps a))) thresholds
     ≡ map (λ a. (a + 1) ∷ (a + 2) ∷ []) thresholds
 unfolding traced hit
 home-reached = refl
 
--- ---- a slot is opened 2A + 3 times: it is read A times and copied away, gets another row, is read A times and copied away
+-- ---- a slot is opened A + 3 times: its row is read A − 1 times and sent home, and the row that it gets is read once and copied
+-- away
 
-abbrev pub slotSettings : ℕ → Settings
-slotSettings a = settingsOf 2 3 1 3 a (4 * a - 1)
-
--- rows 0 and 1 go to slots 0 and 1; in the next epoch row 0 goes to slot 2, row 1 to slot 0, and row 1 to slot 1
+-- rows 0 and 1 go to slots 0 and 1; in the next epoch row 0 is read in slot 0, row 2 goes to slot 0, and then to slot 1
 abbrev pub slotSteps : ℕ → List ℕ
-slotSteps a = often a (0 ∷ 1 ∷ []) ++ 65535 ∷ often a (0 ∷ 1 ∷ 1 ∷ [])
+slotSteps a = often a (0 ∷ 1 ∷ []) ++ 65535 ∷ replicate (a - 1) 0 ++ often a (2 ∷ []) ++ 2 ∷ []
 
 -- the openings of slot 0, epoch by epoch
 pub slot-reached :
-    map (λ a. map (λ e. openingsIn e (slotRow (slotSettings a) 0)) (epochsOf (slotSettings a) (slotSteps a))) thresholds
-    ≡ map (λ a. 1 ∷ (2 * a + 3) ∷ []) thresholds
+    map (λ a. map (λ e. openingsIn e (slotRow (twoSlots a) 0)) (epochsOf (twoSlots a) (slotSteps a))) thresholds
+    ≡ map (λ a. 1 ∷ (a + 3) ∷ []) thresholds
 unfolding traced hit
 slot-reached = refl
 
@@ -60,8 +59,8 @@ slot-reached = refl
 
 abbrev pub shortSettings : ℕ → Settings
 shortSettings a =
-    let l : ℕ = 3 * a - 1 in
-    settingsOf 3 (2 * (l / a) - 1) 1 2 a l
+    let l : ℕ = 2 * a in
+    settingsOf 4 (2 * (l / a) - 1) 1 2 a l
 
 -- rows 0, 1 and 2 go to slots 0, 1 and 2; in the last epoch row 0 sits in slot `head` and goes to slot 1, `passed` being 2 then,
 -- and row 2 too sits in slot `head`
@@ -87,7 +86,7 @@ quarantines-reached = refl
 -- ---- set-up is accepted with each of these settings
 
 pub all-taken :
-    map setUpAnswers (map homeSettings thresholds ++ map slotSettings thresholds ++ map shortSettings thresholds)
-    ≡ replicate 9 0
+    map setUpAnswers (map twoSlots thresholds ++ map shortSettings thresholds)
+    ≡ replicate 6 0
 unfolding traced
 all-taken = refl

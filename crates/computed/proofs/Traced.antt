@@ -5,8 +5,9 @@ use Rattle.geometry.specs.declared.Settings.{Settings}
 use Rattle.conditions.specs.Conditions.{rangesHold, limitHolds, storeHolds, lengthsHold}
 use Rattle.scan.specs.Scan.{lowest, some}
 use Rattle.tracking.specs.Track.{track}
+use Rattle.tracking.specs.Worn.{worn}
 use Rattle.row_layout.specs.Bytes.{copied}
-use Rattle.engine.specs.Steps.{destinationFrom, riseTo, move}
+use Rattle.engine.specs.Steps.{skippedOf, destinationFrom, riseTo, move}
 use Rattle.engine.specs.Ladder.{stops, _▹_, settingsNumber, fitNumber, ringUnsound, trackerUnsound, controlUnsound, pointsBack, rowNumber, quarantineNumber, lateNumber}
 use Rattle.engine.specs.Ladder.{tickNumber, accessNumber}
 use Rattle.engine.specs.Calls as calls
@@ -21,6 +22,6 @@ setUpAnswers S = (calls.setUp S (lent S)) .number
 -- the steps after set-up, with their answers; `unfolding traced` opens all that is named here
 unfoldable pub traced : Settings → List ℕ → List Event
 unfolding calls.setUp calls.noted calls.tick calls.read calls.accessed step stepsFrom
-    lowest some track copied destinationFrom riseTo move stops _▹_ settingsNumber fitNumber rowNumber quarantineNumber lateNumber tickNumber accessNumber
+    lowest some track worn copied skippedOf destinationFrom riseTo move stops _▹_ settingsNumber fitNumber rowNumber quarantineNumber lateNumber tickNumber accessNumber
     rangesHold limitHolds storeHolds lengthsHold ringUnsound trackerUnsound controlUnsound pointsBack
 traced S steps = stepsFrom S ((calls.setUp S (lent S)) .state) steps

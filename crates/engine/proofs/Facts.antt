@@ -19,7 +19,7 @@ use Rattle.geometry.proofs.Tests.{and-left, and-right, or-left, or-right}
 use Rattle.scan.specs.Scan.{some}
 use Rattle.scan.proofs.Scans.{some-none}
 use Rattle.engine.specs.State.{State, lengthsOf, ringOf, forwardOf, reverseOf}
-use Rattle.engine.specs.Steps.{place, moves, destinationFrom, destination, rise}
+use Rattle.engine.specs.Steps.{place, moves, skipped, destinationFrom, destination, rise}
 use Rattle.engine.specs.Ladder.{settingsNumber, fitNumber, ringUnsound, trackerUnsound, controlUnsound, pointsBack, rowNumber, quarantineNumber, lateNumber, setUpNumber, tickNumber, inspectNumber, accessNumber}
 use Rattle.engine.proofs.Rungs.{pass, unmet, passes, goes-by, reach, only, past, stops-all, ladder-all, if-all, either}
 
@@ -177,11 +177,11 @@ row-all P p0 p5 S reverse entry r off p6 p7 =
     ladder-all P _ _ (stops-all P _ 6 p0 p6) (λ f.
     stops-all P _ 7 p0 (λ e. p7 (leb-false (S .n) r (unmet _ _ row)) (not-true (pointsBack entry (S .q) reverse r) e))))
 
-pub late-all : (P : ℕ → Type 0) → P 0 → P 8 → P 9 → (S : Settings) (ring : Ring) (acts : ℕ) (forward reverse : List ℕ) (entry : ℕ) (due : Bool)
-    → (let d : ℕ = destinationFrom S (ring .head) entry in due ≡ true → pointsBack (getD reverse d empty) (S .n) forward d ≡ false → P 7)
-    → P (lateNumber S ring acts forward reverse entry due)
+pub late-all : (P : ℕ → Type 0) → P 0 → P 8 → P 9 → (S : Settings) (ring : Ring) (acts : ℕ) (forward reverse : List ℕ) (over : ℕ) (due : Bool)
+    → (let d : ℕ = destinationFrom S (ring .head) over in due ≡ true → pointsBack (getD reverse d empty) (S .n) forward d ≡ false → P 7)
+    → P (lateNumber S ring acts forward reverse over due)
 unfolding lateNumber quarantineNumber
-late-all P p0 p8 p9 S ring acts forward reverse entry due p7 =
+late-all P p0 p8 p9 S ring acts forward reverse over due p7 =
     ladder-all P _ _ (stops-all P _ 8 p0 (λ e. p8)) (λ e.
     if-all P due _ p0 (λ d.
     ladder-all P _ _ (stops-all P _ 9 p0 (λ k. p9)) (λ k.
@@ -192,7 +192,7 @@ unfolding accessNumber
 access-all P p0 p1 p2 p3 p4 p5 p6 p7 p8 p9 S σ r off =
     ladder-all P _ _ (tick-all P p0 p1 p2 p3 p4 S σ) (λ e.
     ladder-all P _ _ (row-all P p0 p5 S (σ .reverse) (forwardOf σ r) r off (λ e. p6) (λ b e. p7)) (λ e.
-    late-all P p0 p8 p9 S (ringOf (σ .control)) (σ .control .acts) (σ .forward) (σ .reverse) (forwardOf σ r) (moves S σ r) (λ d e. p7)))
+    late-all P p0 p8 p9 S (ringOf (σ .control)) (σ .control .acts) (σ .forward) (σ .reverse) (skipped S σ r) (moves S σ r) (λ d e. p7)))
 
 pub inspect-all : (P : ℕ → Type 0) → P 0 → P 1 → P 2 → P 3 → P 4 → P 5 → P 7 → (S : Settings) (σ : State) (r : ℕ) → P (inspectNumber S σ r)
 unfolding inspectNumber
@@ -269,7 +269,7 @@ if-more false x y n h = absurd (n (sym h))
 
 module _ (S : Settings) (σ : State) (r : ℕ) (off : Bool) where
   quarantine : ℕ
-  quarantine = quarantineNumber S (ringOf (σ .control)) (σ .forward) (σ .reverse) (forwardOf σ r)
+  quarantine = quarantineNumber S (ringOf (σ .control)) (σ .forward) (σ .reverse) (skipped S σ r)
 
   reached : tickNumber S σ ≡ 0 → rowNumber S (σ .reverse) (forwardOf σ r) r off ≡ 0 → eqb (σ .control .acts) (S .l) ≡ false → Reached S σ r off
   reached t row a =

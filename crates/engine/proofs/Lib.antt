@@ -2,6 +2,9 @@ pub mod Rungs
 pub mod Facts
 pub mod Parts
 pub mod Window
+pub mod Skipping
+pub mod Ahead
 pub mod Pointers
 pub mod Moves
+pub mod Worn
 pub mod Answers

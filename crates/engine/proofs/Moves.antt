@@ -1,18 +1,19 @@
 -- What an accepted access leaves in all that is lent, told without its steps. Assumes nothing.
-use Prim.Native.Nat.{ℕ, _+_, _-_, _*_, _%_, _<_, _≤_}
-use native.Mathlib.Nat.{mod-eq-of-lt, mod-lt, mod-self, add-mod-right}
+use Prim.Native.Nat.{ℕ, suc, _+_, _-_, _*_, _%_, _<_, _≤_}
+use native.Mathlib.Nat.{mod-lt}
 use native.Mathlib.Omega.{arith}
 use mathlib.Core.Path.{_≡_, refl, sym, ap, _∙_}
 use mathlib.Core.Logic.{inl, inr, _≢_}
-use mathlib.Core.Bool.{Bool, true, false, cond}
+use mathlib.Core.Bool.{true, false}
 use mathlib.Core.List.{List}
 use lib.Dec.{eqb}
 use lib.ListN.{length, set, length-set}
-use borrow.Author.Tests.{eqb-true, eqb-false, ne-eqb}
+use borrow.Author.Tests.{eqb-true, eqb-false}
 use Rattle.geometry.specs.declared.Settings.{Settings}
 use Rattle.geometry.specs.Numbering.{visible, slot}
 use Rattle.geometry.specs.Entry.{empty}
 use Rattle.geometry.proofs.Cases.{split}
+use Rattle.geometry.proofs.Tests.{or-left}
 use Rattle.conditions.proofs.Facts.{Exact}
 use Rattle.tracking.proofs.View.{Counting, Tracks, tracks}
 use Rattle.row_layout.specs.Bytes.{copied}
@@ -20,8 +21,9 @@ use Rattle.row_layout.proofs.Laws.{byteAt, length-copied, copied-to, copied-oth
 use Rattle.engine.specs.declared.Move.{Move}
 use Rattle.engine.specs.declared.Move.the-variants.{Stayed, ToSlot, OverSlot}
 use Rattle.engine.specs.State.{State, lengthsOf, forwardOf, reverseOf}
-use Rattle.engine.specs.Steps.{place, tracked, moves, destinationFrom, destination, riseTo, rise, move, left, settled}
-use Rattle.engine.proofs.Window.{Slide, slide-one, slide-more, next-is, next-in}
+use Rattle.engine.specs.Steps.{place, tracked, moves, skips, skipped, destinationFrom, destination, riseTo, rise, move, left, settled}
+use Rattle.engine.proofs.Window.{Slide, next-in}
+use Rattle.engine.proofs.Ahead.{distance, ahead, goes-past}
 use Rattle.engine.proofs.Pointers.{Sound, Relinked, marks-none, place-is, place-in, left-long, holder, relinked-to, relinked-over}
 
 -- ---- where an access leaves its row, with what decides it
@@ -45,77 +47,40 @@ plan S σ r =
 
 -- ---- the head
 
--- slot s holds the moving row
-abbrev pub own : State → ℕ → ℕ → Bool
-own σ r s = eqb (forwardOf σ r) s
-
-next-apart : (q h : ℕ) → h < q → 2 ≤ q → h ≢ (h + 1) % q
-next-apart q h b two e = elim (next-is q h b) [ inl c ↦ omega (arith, c .1) | inr c ↦ omega (arith, c .0, c .1) ]
-
--- 'by 1, or by 2 where a slot was passed'
-pub rise-is : (S : Settings) (head entry : ℕ) → 2 ≤ S .q → head < S .q → riseTo S head (destinationFrom S head entry) ≡ cond (eqb entry head) 2 1
+-- where there is a destination, it is as many slots from `head` as are skipped, and one
+pub rise-is : (S : Settings) (head over : ℕ) → head < S .q → over < S .q → riseTo S head (destinationFrom S head over) ≡ suc over
 unfolding destinationFrom riseTo
-rise-is S head entry two b =
-    elim (split (eqb entry head)) [
-      | inl e ↦ elim (next-is (S .q) head b) [
-        | inl c ↦
-            let up : head + 1 + S .q - head ≡ 1 + S .q = omega arith in
-            let one : (1 + S .q) % S .q ≡ 1 = add-mod-right 1 (S .q) ∙ mod-eq-of-lt two in
-            rw (e, c .1, up, one)
-        | inr c ↦
-            let up : 0 + S .q - head ≡ 1 = omega (arith, c .0) in
-            let one : 1 % S .q ≡ 1 = mod-eq-of-lt two in
-            rw (e, c .1, up, one)
-      ]
-      | inr e ↦
-          let up : head + S .q - head ≡ S .q = omega arith in
-          rw (e, up, mod-self (S .q))
-    ]
+rise-is S head over b few = let far : ((head + over) % S .q + S .q - head) % S .q ≡ over = distance (S .q) head over b few in omega arith
 
-pub rise-in : (S : Settings) (head d : ℕ) → 1 ≤ S .q → riseTo S head d ≤ S .q
-unfolding riseTo
-rise-in S head d some = let below : (d + S .q - head) % S .q < S .q = mod-lt (d + S .q - head) some in omega arith
-
-pub rise-most : (S : Settings) (head entry : ℕ) → 2 ≤ S .q → head < S .q → riseTo S head (destinationFrom S head entry) ≤ 2
-rise-most S head entry two b =
-    rw (rise-is S head entry two b) (elim (split (eqb entry head)) [ inl e ↦ rw e (omega arith) | inr e ↦ rw e (omega arith) ])
-
-slide : (S : Settings) (σ : State) (r : ℕ) → 2 ≤ S .q → σ .control .head < S .q → σ .control .passed + rise S σ r ≤ S .q
-    → Slide (own σ r) (S .q) (σ .control .head) (σ .control .passed) (destination S σ r) ((destination S σ r + 1) % S .q) (σ .control .passed + rise S σ r)
+pub destination-from-in : (S : Settings) (head over : ℕ) → head < S .q → destinationFrom S head over < S .q
 unfolding destinationFrom
-slide S σ r two b room =
-    let up : rise S σ r ≡ cond (eqb (forwardOf σ r) (σ .control .head)) 2 1 = rise-is S (σ .control .head) (forwardOf σ r) two b in
-    let h : ℕ = σ .control .head in
-    let m : ℕ = σ .control .passed in
-    elim (split (eqb (forwardOf σ r) (σ .control .head))) [
-      | inl e ↦
-          let at : forwardOf σ r ≡ h = eqb-true (forwardOf σ r) h e in
-          let free : own σ r ((h + 1) % S .q) ≡ false = rw at (ne-eqb h ((h + 1) % S .q) (next-apart (S .q) h b two)) in
-          let more : m + 2 ≤ S .q = rw (up, e) at room in
-          let two′ : m + 2 ≡ m + 1 + 1 = omega arith in
-          rw (up, e, two′)
-          (slide-more (own σ r) (S .q) h m ((h + 1) % S .q) (((h + 1) % S .q + 1) % S .q) (m + 1 + 1) b e
-          (slide-one (own σ r) (S .q) ((h + 1) % S .q) (m + 1) (next-in (S .q) h b) (omega arith) free))
-      | inr e ↦
-          let more : m + 1 ≤ S .q = rw (up, e) at room in
-          rw (up, e) (slide-one (own σ r) (S .q) h m b (omega arith) e)
-    ]
-
-pub destination-from-in : (S : Settings) (head entry : ℕ) → head < S .q → destinationFrom S head entry < S .q
-unfolding destinationFrom
-destination-from-in S head entry b = elim (split (eqb entry head)) [ inl e ↦ rw e (next-in (S .q) head b) | inr e ↦ rw e b ]
+destination-from-in S head over b = mod-lt (head + over) (omega arith)
 
 pub destination-in : (S : Settings) (σ : State) (r : ℕ) → σ .control .head < S .q → destination S σ r < S .q
-destination-in S σ r b = destination-from-in S (σ .control .head) (forwardOf σ r) b
+destination-in S σ r b = destination-from-in S (σ .control .head) (skipped S σ r) b
 
--- the destination is not the row's own slot
-pub destination-free : (S : Settings) (head entry : ℕ) → 2 ≤ S .q → head < S .q → destinationFrom S head entry ≢ entry
-unfolding destinationFrom
-destination-free S head entry two b =
-    elim (split (eqb entry head)) [
-      | inl e ↦ rw e (λ z. next-apart (S .q) head b two (sym (z ∙ eqb-true entry head e)))
-      | inr e ↦ rw e (λ z. eqb-false entry head e (sym z))
-    ]
+module _ (S : Settings) (σ : State) (r : ℕ) (head-in : σ .control .head < S .q) (room : σ .control .passed + rise S σ r ≤ S .q) where
+  few : skipped S σ r < S .q
+  few = omega arith
+
+  -- the head skips slots and goes by the destination
+  pub slide : Slide (skips S σ r) (S .q) (σ .control .head) (σ .control .passed) (destination S σ r) ((destination S σ r + 1) % S .q) (σ .control .passed + rise S σ r)
+  unfolding destinationFrom
+  slide = goes-past (skips S σ r) (S .q) (S .q) (σ .control .head) (σ .control .passed) head-in few room .0
+
+  -- the marked slots ahead of it that it skips are gone by then
+  pub ahead-then : ahead (skips S σ r) (S .q) (σ .control .head) (σ .control .passed)
+      ≡ skipped S σ r + ahead (skips S σ r) (S .q) ((destination S σ r + 1) % S .q) (σ .control .passed + rise S σ r)
+  unfolding destinationFrom
+  ahead-then = goes-past (skips S σ r) (S .q) (S .q) (σ .control .head) (σ .control .passed) head-in few room .1
+
+  -- 'by the slots passed plus one', told by the destination
+  pub rise-to : riseTo S (σ .control .head) (destination S σ r) ≡ rise S σ r
+  rise-to = rise-is S (σ .control .head) (skipped S σ r) head-in few
+
+-- a slot that is not skipped is not the row's own
+pub not-own : (S : Settings) (σ : State) (r d : ℕ) → skips S σ r d ≡ false → d ≢ forwardOf σ r
+not-own S σ r d free e = eqb-false (forwardOf σ r) d (or-left (eqb (forwardOf σ r) d) _ free) (sym e)
 
 -- ---- the bytes
 
@@ -131,9 +96,12 @@ pub record Carried (S : Settings) (σ : State) (r d : ℕ) (store after : List �
 
 -- row r was moved to slot d; σ′: what the access left; store: the store after step 3
 pub record Moved (S : Settings) (σ : State) (r : ℕ) (store : List ℕ) (d : ℕ) (σ′ : State) : Type 0 where
-  pub slide : Slide (own σ r) (S .q) (σ .control .head) (σ .control .passed) d (σ′ .control .head) (σ′ .control .passed)
+  pub slide : Slide (skips S σ r) (S .q) (σ .control .head) (σ .control .passed) d (σ′ .control .head) (σ′ .control .passed)
   pub head-in : σ′ .control .head < S .q
   pub passed : σ′ .control .passed ≡ σ .control .passed + rise S σ r
+  -- the slots ahead that the head would skip: the skipped ones are gone by now
+  pub ahead : ahead (skips S σ r) (S .q) (σ .control .head) (σ .control .passed)
+      ≡ skipped S σ r + ahead (skips S σ r) (S .q) (σ′ .control .head) (σ′ .control .passed)
   pub links : Relinked S σ r d (σ′ .forward) (σ′ .reverse)
   pub bytes : Carried S σ r d store (σ′ .store)
   pub lengths : Exact S (lengthsOf σ′)
@@ -158,13 +126,18 @@ module _ (S : Settings) (σ : State) (sound : Sound S σ) (r : ℕ) (row-in : r 
       elim (place-is S σ sound r row-in) [ inl a ↦ n (ap (forwardOf σ) (sym (a .1) ∙ e) ∙ at) | inr a ↦ omega (arith, a .1) ]
 
   module _ (T : Tracks (S .a) (S .k) (place S σ r) (σ .rows) (σ .counts) (σ .control .spill) (σ .control .acts) (tracked S σ r))
-      (store : List ℕ) (long : length store ≡ (S .n + S .q) * S .w) (d : ℕ) (to : d ≡ destination S σ r)
-      (sl : Slide (own σ r) (S .q) (σ .control .head) (σ .control .passed) d ((d + 1) % S .q) (σ .control .passed + riseTo S (σ .control .head) d)) where
+      (store : List ℕ) (long : length store ≡ (S .n + S .q) * S .w) (d : ℕ) (rises : riseTo S (σ .control .head) d ≡ rise S σ r)
+      (went : Slide (skips S σ r) (S .q) (σ .control .head) (σ .control .passed) d ((d + 1) % S .q) (σ .control .passed + rise S σ r))
+      (fewer : ahead (skips S σ r) (S .q) (σ .control .head) (σ .control .passed)
+      ≡ skipped S σ r + ahead (skips S σ r) (S .q) ((d + 1) % S .q) (σ .control .passed + rise S σ r)) where
     passed-is : σ .control .passed + riseTo S (σ .control .head) d ≡ σ .control .passed + rise S σ r
-    passed-is = ap (λ (x : ℕ). σ .control .passed + riseTo S (σ .control .head) x) to
+    passed-is = ap (λ (x : ℕ). σ .control .passed + x) rises
+
+    sl : Slide (skips S σ r) (S .q) (σ .control .head) (σ .control .passed) d ((d + 1) % S .q) (σ .control .passed + riseTo S (σ .control .head) d)
+    sl = rw rises went
 
     free : d ≢ forwardOf σ r
-    free e = eqb-false (forwardOf σ r) d (sl .free) (sym e)
+    free = not-own S σ r d (went .free)
 
     target-in : S .n + d < S .n + S .q
     target-in = omega (arith, sl .inside)
@@ -179,6 +152,7 @@ module _ (S : Settings) (σ : State) (sound : Sound S σ) (r : ℕ) (row-in : r 
           slide = sl;
           head-in = next-in (S .q) d (sl .inside);
           passed = passed-is;
+          ahead = rw rises fewer;
           links = relinked-to S σ sound r row-in d (sl .inside) free vacant;
           bytes = record {
             target = copied-to (S .w) (S .n + S .q) store (place S σ r) (S .n + d) long p-in target-in;
@@ -216,6 +190,7 @@ module _ (S : Settings) (σ : State) (sound : Sound S σ) (r : ℕ) (row-in : r 
             slide = sl;
             head-in = next-in (S .q) d (sl .inside);
             passed = passed-is;
+            ahead = rw rises fewer;
             links = relinked-over S σ sound r row-in d (sl .inside) free v held v-in back;
             bytes = record {
               target = λ c c-in.
@@ -248,13 +223,14 @@ module _ (S : Settings) (σ : State) (sound : Sound S σ) (r : ℕ) (row-in : r 
     by-plan : (m : Move) → Plan S σ r m → Fate store m
     by-plan m (rests e) = stays e
     by-plan m (fills e vacant) =
-        goes e (destination S σ r) vacant (moved-to T store long (destination S σ r) refl (slide S σ r (sound .ranges .q-low) head-in (room e)) vacant)
+        goes e (destination S σ r) vacant (moved-to T store long (destination S σ r) (rise-to S σ r head-in (room e)) (slide S σ r head-in (room e)) (ahead-then S σ r head-in (room e)) vacant)
     by-plan m (evicts e full) =
-        elim (sound .inverse .reverse (destination S σ r) (destination-in S σ r head-in)) [
+        elim (sound .inverse .reverse (destination S σ r) (slide S σ r head-in (room e) .inside)) [
           | inl z ↦ absurd (full z)
           | inr c ↦
               ousts e (destination S σ r) (reverseOf σ (destination S σ r)) refl (c .0) (c .1)
-              (moved-over T store long (destination S σ r) refl (slide S σ r (sound .ranges .q-low) head-in (room e)) (reverseOf σ (destination S σ r)) refl (c .0) (c .1))
+              (moved-over T store long (destination S σ r) (rise-to S σ r head-in (room e)) (slide S σ r head-in (room e)) (ahead-then S σ r head-in (room e))
+              (reverseOf σ (destination S σ r)) refl (c .0) (c .1))
         ]
 
     pub fate : Fate store (move S σ r)

@@ -33,7 +33,7 @@ unfolding goneBy
 gone-head q h n b = rw (le-ltb h h (omega arith)) (lt-leb (h + q) (h + n) (omega arith))
 
 -- the slot after h, round q
-pub next-is : (q h : ℕ) → h < q → ((h + 1 < q) × ((h + 1) % q ≡ h + 1)) ⊎ ((h + 1 ≡ q) × ((h + 1) % q ≡ 0))
+next-is : (q h : ℕ) → h < q → ((h + 1 < q) × ((h + 1) % q ≡ h + 1)) ⊎ ((h + 1 ≡ q) × ((h + 1) % q ≡ 0))
 next-is q h b =
     elim (lt? (h + 1) q) [
       | inl k ↦ inl (k, mod-eq-of-lt k)
@@ -84,7 +84,7 @@ slide-one skips q h n b room e =
       others = λ s l sd. inl (gone-other q h n s b l sd);
     }
 
--- the slot at the head is passed
+-- the slot at the head is skipped
 pub slide-more : (skips : ℕ → Bool) (q h n d h′ n′ : ℕ) → h < q → skips h ≡ true → Slide skips q ((h + 1) % q) (n + 1) d h′ n′ → Slide skips q h n d h′ n′
 slide-more skips q h n d h′ n′ b e sl =
     let dh : d ≢ h = λ w. true≢false (sym e ∙ ap skips (sym w) ∙ sl .free) in

@@ -1,7 +1,7 @@
 -- Document 01, 'Where each call can stop': the number that a call answers, 0 where it is accepted. Each row of the table
 -- stands once, as `stops condition number`, with the table's condition.
 -- Assumes nothing.
-use Prim.Native.Nat.{ℕ, _+_}
+use Prim.Native.Nat.{ℕ, suc, _+_}
 use mathlib.Core.Bool.{Bool, false, cond, not, _&&_, _||_}
 use mathlib.Core.List.{List}
 use lib.Dec.{ltb, leb, eqb}
@@ -14,7 +14,7 @@ use Rattle.conditions.specs.Conditions.{rangesHold, limitHolds, lengthsHold}
 use Rattle.geometry.specs.Entry.{empty}
 use Rattle.scan.specs.Scan.{some}
 use Rattle.engine.specs.State.{State, lengthsOf, trackerAt, ringOf, forwardOf}
-use Rattle.engine.specs.Steps.{place, moves, destinationFrom, riseTo}
+use Rattle.engine.specs.Steps.{place, moves, skipped, destinationFrom}
 
 infixr 20 _▹_
 -- a row of the table: its number where its condition applies, else 0
@@ -69,18 +69,18 @@ readOff S count = not (eqb count (S .w))
 abbrev pub writeOff : Settings → ℕ → ℕ → Bool
 writeOff S column count = ltb (S .w) (column + count)
 
--- of an access that would quarantine its row, whose forward entry is `entry`. Quarantine: 'passed plus the rise of step 4
--- exceeds Q'; destination: 'reverse of d is neither 65535 nor a row whose forward entry names d'
+-- of an access that would quarantine its row; over: the slots that the head skips. Quarantine: 'passed plus the rise of step
+-- 4 exceeds Q'; destination: 'reverse of d is neither 65535 nor a row whose forward entry names d'
 unfoldable pub quarantineNumber : Settings → Ring → List ℕ → List ℕ → ℕ → ℕ
-quarantineNumber S ring forward reverse entry =
-    let d : ℕ = destinationFrom S (ring .head) entry in
-    stops (ltb (S .q) (ring .passed + riseTo S (ring .head) d)) 9
+quarantineNumber S ring forward reverse over =
+    let d : ℕ = destinationFrom S (ring .head) over in
+    stops (ltb (S .q) (ring .passed + suc over)) 9
     ▹ stops (not (pointsBack (getD reverse d empty) (S .n) forward d)) 7
 
 -- epoch: 'acts = L'; then the two rows above, if the access would quarantine its row (due)
 unfoldable pub lateNumber : Settings → Ring → ℕ → List ℕ → List ℕ → ℕ → Bool → ℕ
-lateNumber S ring acts forward reverse entry due =
-    stops (eqb acts (S .l)) 8 ▹ cond due (quarantineNumber S ring forward reverse entry) 0
+lateNumber S ring acts forward reverse over due =
+    stops (eqb acts (S .l)) 8 ▹ cond due (quarantineNumber S ring forward reverse over) 0
 
 -- ---- the column 'calls' of the table
 
@@ -102,4 +102,4 @@ accessNumber S σ r off =
     tickNumber S σ
     ▹ rowNumber S (σ .reverse) (forwardOf σ r) r off
     ▹ lateNumber S (ringOf (σ .control)) (trackerAt S σ (place S σ r) .acts)
-    (σ .forward) (σ .reverse) (forwardOf σ r) (moves S σ r)
+    (σ .forward) (σ .reverse) (skipped S σ r) (moves S σ r)

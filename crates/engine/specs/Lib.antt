@@ -1,6 +1,7 @@
 pub mod State
 pub mod Answer
 pub mod Steps
+pub mod OwnSlot
 pub mod Ladder
 pub mod Calls
 pub mod Tables

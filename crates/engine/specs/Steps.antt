@@ -1,7 +1,8 @@
--- Document 01, 'One access': what an accepted read or write of row r does, step by step.
+-- Document 01, 'One access': what an accepted read or write of row r does, step by step; with document 02, Ask 4, on where a
+-- row is moved to.
 -- Assumes nothing.
-use Prim.Native.Nat.{ℕ, suc, _+_, _-_, _%_}
-use mathlib.Core.Bool.{Bool, cond}
+use Prim.Native.Nat.{ℕ, zero, suc, _+_, _-_, _%_}
+use mathlib.Core.Bool.{Bool, cond, _||_}
 use mathlib.Core.List.{List}
 use lib.Dec.{eqb}
 use lib.ListN.{getD, set}
@@ -10,10 +11,11 @@ use Rattle.geometry.specs.declared.Ring.{Ring}
 use Rattle.geometry.specs.Numbering.{visible, slot, homeRow, slotRow}
 use Rattle.geometry.specs.Entry.{empty}
 use Rattle.tracking.specs.Track.{Tracked, track, isDue}
+use Rattle.tracking.specs.Worn.{worn}
 use Rattle.row_layout.specs.Bytes.{copied}
 use Rattle.engine.specs.declared.Move.{Move}
 use Rattle.engine.specs.declared.Move.the-variants.{Stayed, ToSlot, OverSlot}
-use Rattle.engine.specs.State.{State, Tracker, Storage, trackerAt, storageOf, ringOf, controlOf, forwardOf}
+use Rattle.engine.specs.State.{State, Tracker, Storage, trackerAt, storageOf, ringOf, controlOf, forwardOf, reverseOf}
 
 -- 1. 'Place p: slot s's physical row if the row's forward entry is s, else its home.'
 abbrev pub placeBy : Settings → ℕ → ℕ → ℕ
@@ -33,34 +35,49 @@ tracked S σ r =
 abbrev pub moves : Settings → State → ℕ → Bool
 moves S σ r = isDue (S .a) ((tracked S σ r) .estimate)
 
--- 'the destination d is `head`; but if the row itself sits in slot `head`, .. d is the next one, (head + 1) mod Q'
--- (entry: the row's forward entry)
+-- 'The head shall pass every slot whose physical row has, in the lowest entry naming it, a tracker count of A or more after
+-- step 2, as well as the moving row's own slot.' (document 02, Ask 4) Such a slot is called skipped here: `passed` counts the
+-- destinations too.
+abbrev pub skips : Settings → State → ℕ → ℕ → Bool
+skips S σ r s =
+    let t : Tracked = tracked S σ r in
+    eqb (forwardOf σ r) s || worn (S .a) (t .rows) (t .counts) (slotRow S s)
+
+-- of k slots from s on, round q, how many are skipped before the first that is not; all k where there is none such
+unfoldable pub skippedOf : (ℕ → Bool) → ℕ → ℕ → ℕ → ℕ
+skippedOf skip q zero s = 0
+skippedOf skip q (suc k) s = cond (skip s) (suc (skippedOf skip q k ((s + 1) % q))) 0
+
+-- of all slots from `head` on
+abbrev pub skipped : Settings → State → ℕ → ℕ
+skipped S σ r = skippedOf (skips S σ r) (S .q) (S .q) (σ .control .head)
+
+-- 'The destination is the first slot from `head` on that isn't passed' (over: how many are skipped; Q of them where there is
+-- no such slot, and then 9 is answered)
 unfoldable pub destinationFrom : Settings → ℕ → ℕ → ℕ
-destinationFrom S head entry = cond (eqb entry head) ((head + 1) % S .q) head
+destinationFrom S head over = (head + over) % S .q
 
 abbrev pub destination : Settings → State → ℕ → ℕ
-destination S σ r = destinationFrom S (σ .control .head) (forwardOf σ r)
+destination S σ r = destinationFrom S (σ .control .head) (skipped S σ r)
 
--- '`passed` rises by 1, or by 2 where a slot was passed': by the slots from `head` to the destination d, d among them
--- (`rise-is` of proofs/Moves.antt: that is 1 or 2, as the sentence has it)
+-- '`passed` rises by the slots passed plus one'
+abbrev pub rise : Settings → State → ℕ → ℕ
+rise S σ r = suc (skipped S σ r)
+
+-- told by the destination d: the slots from `head` to d, d among them (`rise-is` of proofs/Moves.antt: where there is a
+-- destination, the two are the same)
 unfoldable pub riseTo : Settings → ℕ → ℕ → ℕ
 riseTo S head d = (d + S .q - head) % S .q + 1
-
-abbrev pub rise : Settings → State → ℕ → ℕ
-rise S σ r = riseTo S (σ .control .head) (destination S σ r)
 
 -- 'If the reverse entry of d names a row v': where the row goes, and which row is sent home (held: d's reverse entry)
 abbrev pub moveInto : ℕ → ℕ → Move
 moveInto d held = cond (eqb held empty) (ToSlot (slot d)) (OverSlot (slot d) (visible held))
 
--- where a row with that forward entry goes, if it is quarantined (due)
-abbrev pub moveFrom : Settings → ℕ → List ℕ → ℕ → Bool → Move
-moveFrom S head reverse entry due =
-    let d : ℕ = destinationFrom S head entry in
-    cond due (moveInto d (getD reverse d empty)) Stayed
-
+-- where the row goes, if it is quarantined
 unfoldable pub move : Settings → State → ℕ → Move
-move S σ r = moveFrom S (σ .control .head) (σ .reverse) (forwardOf σ r) (moves S σ r)
+move S σ r =
+    let d : ℕ = destination S σ r in
+    cond (moves S σ r) (moveInto d (reverseOf σ d)) Stayed
 
 -- 'slot d is copied to v's home .. Then p is copied to slot d.'
 abbrev pub storeAfter : Settings → List ℕ → ℕ → Move → List ℕ

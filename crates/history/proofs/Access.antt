@@ -1,29 +1,31 @@
 -- An accepted access carries the invariant on. Assumes nothing.
-use Prim.Native.Nat.{ℕ, _+_, _*_, _/_, _<_, _≤_}
+use Prim.Native.Nat.{ℕ, _+_, _-_, _*_, _/_, _<_, _≤_}
 use native.Mathlib.Omega.{arith}
 use mathlib.Core.Path.{_≡_, sym, ap, _∙_}
-use mathlib.Core.Logic.{_≢_}
+use mathlib.Core.Logic.{inl, inr, _≢_}
 use mathlib.Core.Bool.{Bool, true, false}
 use mathlib.Core.List.{List}
 use lib.ListN.{length}
-use borrow.Author.Tests.{eqb-false}
 use Rattle.geometry.specs.declared.Settings.{Settings}
 use Rattle.geometry.specs.Numbering.{visible, slot}
+use Rattle.geometry.proofs.Cases.{lt?}
 use Rattle.conditions.proofs.Facts.{limit-fact}
 use Rattle.tracking.proofs.Sums.{quotients}
 use Rattle.tracking.proofs.Tracking.{one-if}
-use Rattle.tracking.proofs.View.{Tracks, quotients-few}
+use Rattle.tracking.proofs.View.{Tracks, quotients-few, spill-below}
 use Rattle.engine.specs.declared.Move.{Move}
 use Rattle.engine.specs.declared.Move.the-variants.{Stayed, ToSlot, OverSlot}
 use Rattle.engine.specs.State.{State, Tracker, trackerAt, forwardOf}
 use Rattle.engine.specs.Answer.{slotMovedTo, rowSentHome}
-use Rattle.engine.specs.Steps.{place, tracked, moves, rise, move, settled, stateAfter}
+use Rattle.engine.specs.Steps.{place, tracked, moves, skips, rise, move, settled, stateAfter}
 use Rattle.engine.proofs.Pointers.{marks-none, holder, inverse-moved}
-use Rattle.engine.proofs.Moves.{Moved, rise-most, tracks-access, counting-settled, Fate, stays, goes, ousts, fate}
+use Rattle.engine.proofs.Ahead.{ahead, ahead-same, ahead-but, ahead-all}
+use Rattle.engine.proofs.Worn.{skips-worn}
+use Rattle.engine.proofs.Moves.{Moved, not-own, tracks-access, counting-settled, Fate, stays, goes, ousts, fate}
 use Rattle.history.specs.Tally as tally
 use Rattle.history.proofs.Tallied.{Tallied, tallied-to, tallied-over}
-use Rattle.history.proofs.Invariant.{Inv}
-use Rattle.history.proofs.Rows.{Estimated, home-stays, slot-stays, place-moves, home-moves, slot-moves}
+use Rattle.history.proofs.Invariant.{Inv, wornSlot}
+use Rattle.history.proofs.Rows.{Estimated, home-stays, slot-stays, worn-stays, worn-rests, place-moves, home-moves, slot-moves}
 
 -- the tally after an access of row r that leaves it so
 abbrev pub tallyAfter : Settings → tally.Tally → ℕ → Move → tally.Tally
@@ -39,17 +41,46 @@ module _ (S : Settings) (σ : State) (τ₀ τ : tally.Tally) (I : Inv S σ τ�
   counted : (b : Bool) → moves S σ r ≡ b → quotients (S .a) ((tracked S σ r) .counts) ≡ quotients (S .a) (σ .counts) + one-if b
   counted b e = T .quotients ∙ ap (λ (c : Bool). quotients (S .a) (σ .counts) + one-if c) e
 
+  estimated : (store : List ℕ) (m : Move) → Estimated S σ (settled S σ r store m) (place S σ r)
+  estimated store m = record { same = T .same; other = T .other }
+
+  -- ---- the slots that the head skips
+
+  -- of an access that moves its row: those that are worn after step 2
+  skip-is : moves S σ r ≡ true → (store : List ℕ) (m : Move) (s : ℕ) → s < S .q → skips S σ r s ≡ wornSlot S (settled S σ r store m) s
+  skip-is e store m s b =
+      let small : (tracked S σ r) .spill < S .a = spill-below (T .after) (S .a) (S .l) more (limit-fact S (I .limit)) in
+      skips-worn S σ r _ (I .sound) (T .after) small e s b
+
+  -- step 2 makes at most one slot more worn: the row's own
+  ahead-up : moves S σ r ≡ true
+      → ahead (skips S σ r) (S .q) (σ .control .head) (σ .control .passed) ≤ ahead (wornSlot S σ) (S .q) (σ .control .head) (σ .control .passed) + 1
+  ahead-up e =
+      let after : State = settled S σ r (σ .store) Stayed in
+      let rest : (s : ℕ) → s < S .q → s ≢ forwardOf σ r → skips S σ r s ≡ wornSlot S σ s =
+      λ s b n. skip-is e (σ .store) Stayed s b ∙ worn-rests S σ τ₀ τ I r row-in after (estimated (σ .store) Stayed) s b n in
+      elim (lt? (forwardOf σ r) (S .q)) [
+        | inl b ↦ ahead-but (S .q) (σ .control .head) (σ .control .passed) (forwardOf σ r) (skips S σ r) (wornSlot S σ) b rest
+        | inr b ↦ omega (arith, ahead-same (S .q) (σ .control .head) (σ .control .passed) (skips S σ r) (wornSlot S σ) (λ s l. rest s l (λ w. omega arith)))
+      ]
+
+  -- where an access wants a slot, two for each quarantine of the epoch, this one included, exceed Q
+  pub wanting-few : moves S σ r ≡ true → S .q < σ .control .passed + rise S σ r → S .q < 2 * quotients (S .a) (σ .counts) + 2
+  wanting-few e full =
+      let k : ℕ = S .q - σ .control .passed in
+      let all : k ≤ ahead (skips S σ r) (S .q) (σ .control .head) (σ .control .passed) =
+      ahead-all (skips S σ r) (S .q) k (S .q) (σ .control .head) (σ .control .passed) (I .head-in) (omega (arith, I .passed-in)) (omega arith) in
+      omega (arith, I .passed-few, I .passed-in, ahead-up e)
+
   -- with slots enough no access wants one
   pub never-wanting : 2 * (S .l / S .a) ≤ S .q → moves S σ r ≡ true → S .q < σ .control .passed + rise S σ r → ⊥
   never-wanting enough e full =
-      omega (arith, counted true e, quotients-few (T .after) (S .a) (S .l) (I .sound .ranges .a-low) more, I .passed-few, rise-most S (σ .control .head) (forwardOf σ r) (I .sound .ranges .q-low) (I .head-in))
+      omega (arith, counted true e, quotients-few (T .after) (S .a) (S .l) (I .sound .ranges .a-low) more, wanting-few e full)
 
   module _ (room : moves S σ r ≡ true → σ .control .passed + rise S σ r ≤ S .q) (store : List ℕ) (long : length store ≡ (S .n + S .q) * S .w) where
-    estimated : (m : Move) → Estimated S σ (settled S σ r store m) (place S σ r)
-    estimated m = record { same = T .same; other = T .other }
-
     stayed : moves S σ r ≡ false → Inv S (settled S σ r store Stayed) τ₀ (tally.afterStay S τ r)
     stayed e =
+        let not-a = T .rests e 1 (omega arith) in
         record {
           ranges = I .ranges;
           limit = I .limit;
@@ -69,15 +100,22 @@ module _ (S : Settings) (σ : State) (τ₀ τ : tally.Tally) (I : Inv S σ τ�
           acts-in = λ p. more;
           counting = λ p. counting-settled S σ (I .sound) r row-in store Stayed T;
           quarantines = omega (arith, I .quarantines, counted false e);
-          passed-few = omega (arith, I .passed-few, counted false e);
+          passed-few =
+              omega (
+                arith,
+                I .passed-few,
+                counted false e,
+                ahead-same (S .q) (σ .control .head) (σ .control .passed) (wornSlot S (settled S σ r store Stayed)) (wornSlot S σ)
+                    (worn-stays S σ τ₀ τ I r row-in (settled S σ r store Stayed) (estimated store Stayed) not-a),
+              );
           places = I .places;
-          homes = home-stays S σ τ₀ τ I r row-in (settled S σ r store Stayed) (estimated Stayed) (T .rests e);
-          slots = slot-stays S σ τ₀ τ I r row-in (settled S σ r store Stayed) (estimated Stayed) (T .rests e);
+          homes = home-stays S σ τ₀ τ I r row-in (settled S σ r store Stayed) (estimated store Stayed) not-a;
+          slots = slot-stays S σ τ₀ τ I r row-in (settled S σ r store Stayed) (estimated store Stayed) not-a;
         }
 
     -- slot d is not the row's own
     free : {d : ℕ} {σ′ : State} → Moved S σ r store d σ′ → d ≢ forwardOf σ r
-    free {d} M e = eqb-false (forwardOf σ r) d (M .slide .free) (sym e)
+    free {d} M = not-own S σ r d (M .slide .free)
 
     moved : (d : ℕ) (m : Move) → moves S σ r ≡ true → Moved S σ r store d (settled S σ r store m) → Tallied S σ τ (tallyAfter S τ r m) r d
         → Inv S (settled S σ r store m) τ₀ (tallyAfter S τ r m)
@@ -95,10 +133,20 @@ module _ (S : Settings) (σ : State) (τ₀ τ : tally.Tally) (I : Inv S σ τ�
           acts-in = λ p. more;
           counting = λ p. counting-settled S σ (I .sound) r row-in store m T;
           quarantines = omega (arith, I .quarantines, counted true e, told .quarantine);
-          passed-few = omega (arith, I .passed-few, counted true e, M .passed, rise-most S (σ .control .head) (forwardOf σ r) (I .sound .ranges .q-low) (I .head-in));
-          places = place-moves S σ τ₀ τ I r row-in (settled S σ r store m) (estimated m) d (tallyAfter S τ r m) (M .links) told (M .slide);
-          homes = home-moves S σ τ₀ τ I r row-in (settled S σ r store m) (estimated m) d (tallyAfter S τ r m) (M .links) told (M .slide);
-          slots = slot-moves S σ τ₀ τ I r row-in (settled S σ r store m) (estimated m) d (tallyAfter S τ r m) (M .links) told (M .slide);
+          passed-few =
+              let σ′ : State = settled S σ r store m in
+              omega (
+                arith,
+                I .passed-few,
+                counted true e,
+                M .passed,
+                M .ahead,
+                ahead-up e,
+                ahead-same (S .q) (σ′ .control .head) (σ′ .control .passed) (skips S σ r) (wornSlot S σ′) (skip-is e store m),
+              );
+          places = place-moves S σ τ₀ τ I r row-in (settled S σ r store m) (estimated store m) d (tallyAfter S τ r m) (M .links) told (skip-is e store m) (M .slide);
+          homes = home-moves S σ τ₀ τ I r row-in (settled S σ r store m) (estimated store m) d (tallyAfter S τ r m) (M .links) told (skip-is e store m) (M .slide);
+          slots = slot-moves S σ τ₀ τ I r row-in (settled S σ r store m) (estimated store m) d (tallyAfter S τ r m) (M .links) told (skip-is e store m) (M .slide);
         }
 
     by-fate : (m : Move) → Fate S σ (I .sound) r row-in store m → Inv S (settled S σ r store m) τ₀ (tallyAfter S τ r m)

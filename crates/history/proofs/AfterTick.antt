@@ -1,24 +1,30 @@
 -- A good access is accepted as the first call after a tick, in every state with sound tables. Assumes nothing.
-use Prim.Native.Nat.{ℕ, _<_, zero-le}
+use Prim.Native.Nat.{ℕ, _+_, _<_, _≤_, zero-le}
 use native.Mathlib.Nat.{le-of-eq}
 use native.Mathlib.Omega.{arith}
-use mathlib.Core.Path.{_≡_, sym, _∙_, subst}
-use mathlib.Core.Bool.{Bool, false}
+use mathlib.Core.Path.{_≡_, refl, sym, _∙_, subst}
+use mathlib.Core.Logic.{inl, inr}
+use mathlib.Core.Bool.{Bool, true, false}
 use lib.ListN.{getD-replicate, length-replicate}
 use Rattle.geometry.specs.declared.Settings.{Settings}
+use Rattle.geometry.proofs.Cases.{lt?}
+use Rattle.tracking.proofs.View.{quotients-new}
 use Rattle.conditions.proofs.Facts.{ranges-facts, lengths-facts, lengths-hold}
-use Rattle.engine.specs.State.{State, lengthsOf, forwardOf}
-use Rattle.engine.specs.Steps.{destination}
+use Rattle.engine.specs.State.{State, lengthsOf}
+use Rattle.engine.specs.Steps.{place, moves, destination, rise}
 use Rattle.engine.specs.Ladder.{tickNumber, accessNumber}
 use Rattle.engine.specs.Calls as calls
 use Rattle.engine.specs.Tables.{Inverse}
 use Rattle.engine.proofs.Facts.{Fit, steady, steady-passes, tick-facts, row-holds, slot-holds, wanting, accepts}
 use Rattle.engine.proofs.Pointers.{Sound}
-use Rattle.engine.proofs.Moves.{destination-in, rise-most}
+use Rattle.engine.proofs.Moves.{destination-in}
+use Rattle.history.specs.Tally.{Tally}
 use Rattle.history.specs.Run.{Call, access, tick, inspect, rowOf}
 use Rattle.history.specs.Demand2.{GoodAccess, NineIsGood, AcceptedAfterTick}
 use Rattle.history.proofs.Groups.{spanOff, span-good, span-in, ladder, step-number, at-9, accepted-step}
-use Rattle.history.proofs.Calls.{sound-ticked}
+use Rattle.history.proofs.Invariant.{Inv}
+use Rattle.history.proofs.Access.{wanting-few}
+use Rattle.history.proofs.Calls.{inv-new, sound-ticked}
 
 module _ (S : Settings) (σ : State) (inverse : Inverse S σ) (tick-0 : tickNumber S σ ≡ 0) where
   fit : Fit S σ
@@ -29,6 +35,28 @@ module _ (S : Settings) (σ : State) (inverse : Inverse S σ) (tick-0 : tickNumb
 
   head-in : σ .control .head < S .q
   head-in = steady S σ (tick-facts S σ tick-0 .1) .head-in
+
+  -- a tally that has the rows where the tables have them
+  asPlaced : Tally
+  asPlaced = record { place = place S σ; openings = λ p. 0; quarantines = 0 }
+
+  begun : Inv S (calls.ticked S σ) asPlaced asPlaced
+  unfolding asPlaced
+  begun = inv-new S σ asPlaced (fit .ranges) (fit .limit) sound head-in (λ x b. refl)
+
+  -- there is room for a move
+  has-room : (r : ℕ) → r < S .n → moves S (calls.ticked S σ) r ≡ true → 0 + rise S (calls.ticked S σ) r ≤ S .q
+  has-room r row-in m =
+      elim (lt? (S .q) (0 + rise S (calls.ticked S σ) r)) [
+        | inl full ↦
+            absurd (omega (
+              arith,
+              wanting-few S (calls.ticked S σ) asPlaced asPlaced begun r row-in (sound .ranges .l-low) m full,
+              quotients-new (S .a) (S .k),
+              sound .ranges .q-low,
+            ))
+        | inr room ↦ room
+      ]
 
   -- an access of a row in its range, with a span that is not off
   accepted-then : (r : ℕ) (off : Bool) → r < S .n → off ≡ false → accessNumber S (calls.ticked S σ) r off ≡ 0
@@ -45,7 +73,7 @@ module _ (S : Settings) (σ : State) (inverse : Inverse S σ) (tick-0 : tickNumb
           pointers = row-holds S (calls.ticked S σ) r (sound .inverse .forward r row-in);
           more = sound .ranges .l-low;
         };
-        room = λ m. omega (arith, rise-most S (σ .control .head) (forwardOf σ r) (sound .ranges .q-low) head-in, sound .ranges .q-low);
+        room = has-room r row-in;
         target = λ m. slot-holds S (calls.ticked S σ) (destination S (calls.ticked S σ) r)
             (sound .inverse .reverse (destination S (calls.ticked S σ) r) (destination-in S (calls.ticked S σ) r head-in));
       })

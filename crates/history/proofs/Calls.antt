@@ -6,7 +6,7 @@ use mathlib.Core.Logic.{_⊎_, inl, inr, _≢_}
 use mathlib.Core.Bool.{Bool, true, false, true≢false}
 use lib.Dec.{eqb}
 use lib.ListN.{length, length-replicate}
-use borrow.Author.Tests.{eq-eqb, ne-eqb}
+use borrow.Author.Tests.{eq-eqb, ne-eqb, lt-leb}
 use Rattle.geometry.specs.declared.Settings.{Settings}
 use Rattle.conditions.specs.Conditions.{rangesHold, limitHolds}
 use Rattle.geometry.specs.Entry.{empty}
@@ -15,13 +15,14 @@ use Rattle.tracking.proofs.View.{counting-new, estimate-new, quotients-new}
 use Rattle.tracking.proofs.View.{quotients-few, spill-within, spill-below, count-within}
 use Rattle.row_layout.proofs.Laws.{length-written}
 use Rattle.engine.specs.State.{State, lengthsOf, trackerAt, ringOf, forwardOf, reverseOf}
-use Rattle.engine.specs.Steps.{place, moves, destination, move, stateAfter}
+use Rattle.engine.specs.Steps.{place, moves, skipped, destination, move, stateAfter}
 use Rattle.engine.specs.Ladder.{pointsBack, rowNumber, tickNumber, inspectNumber, accessNumber}
 use Rattle.engine.specs.Calls as calls
 use Rattle.engine.proofs.Rungs.{passes, ladder-all}
 use Rattle.engine.proofs.Facts.{steady-passes, tick-passes, row-all, late-all, row-passes, row-holds, slot-holds}
 use Rattle.engine.proofs.Facts.{accepted, wanting}
 use Rattle.engine.proofs.Window.{gone-none}
+use Rattle.engine.proofs.Ahead.{ahead-none}
 use Rattle.engine.proofs.Pointers.{Sound, place-in}
 use Rattle.engine.proofs.Moves.{destination-in}
 use Rattle.history.specs.Tally as tally
@@ -30,7 +31,7 @@ use Rattle.history.specs.Run.{Step, step, eventOf, OfAccepted, reportOf}
 use Rattle.history.specs.Demand3.{Bounded, AnswersPlace}
 use Rattle.history.proofs.Groups.{spanOff, storeBy, span-good, ladder, at-9, step-cases, of-accepted}
 use Rattle.history.proofs.Openings.{here, home-bound, home-new, slot-bound, slot-new}
-use Rattle.history.proofs.Invariant.{CountingAt, Inv}
+use Rattle.history.proofs.Invariant.{CountingAt, wornSlot, Inv}
 use Rattle.history.proofs.Access.{tallyAfter, inv-access, never-wanting}
 
 -- ---- a new epoch: tables as they stand, a tracker as set up, nothing gone by
@@ -49,7 +50,8 @@ inv-new S σ τ ranges limit sound head-in places =
       acts-in = λ p. zero-le;
       counting = λ p. counting-new (S .k);
       quarantines = omega (arith, quotients-new (S .a) (S .k));
-      passed-few = zero-le;
+      passed-few =
+          omega (arith, ahead-none (S .q) (σ .control .head) 0 (wornSlot S (calls.ticked S σ)) (λ s b. rw (estimate-new (S .k) (S .n + s)) (lt-leb (S .a) 0 pos)));
       places = places;
       homes = λ x b. rw (estimate-new (S .k) x) (elim (sound .inverse .forward x b) [
         | inl e ↦ rw (eq-eqb (forwardOf σ x) empty e) (here (omega arith) pos)
@@ -181,7 +183,7 @@ module _ (S : Settings) (σ : State) (τ₀ τ : tally.Tally) (I : Inv S σ τ�
         ladder-all P _ _ (rw tick-0 p0) (λ e.
         ladder-all P _ _ (usual-row r off) (λ f.
         late-all P p0 p8 p9 S (ringOf (σ .control)) (trackerAt S σ (place S σ r) .acts) (σ .forward) (σ .reverse)
-        (forwardOf σ r) (moves S σ r) (λ m k.
+        (skipped S σ r) (moves S σ r) (λ m k.
         let d : ℕ = destination S σ r in
         absurd (true≢false (sym (slot-holds S σ d (I .sound .inverse .reverse d (destination-in S σ r (I .head-in)))) ∙ k)))))
 

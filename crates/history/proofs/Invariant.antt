@@ -2,7 +2,7 @@
 use Prim.Native.Nat.{ℕ, _+_, _*_, _<_, _≤_}
 use mathlib.Core.Path.{_≡_}
 use mathlib.Core.Bool.{Bool, true}
-use lib.Dec.{eqb}
+use lib.Dec.{leb, eqb}
 use Rattle.geometry.specs.declared.Settings.{Settings}
 use Rattle.conditions.specs.Conditions.{rangesHold, limitHolds}
 use Rattle.geometry.specs.Entry.{empty}
@@ -13,6 +13,7 @@ use Rattle.engine.specs.State.{State, Tracker, trackerAt, forwardOf, reverseOf}
 use Rattle.engine.specs.Steps.{place}
 use Rattle.history.specs.Tally.{Tally}
 use Rattle.engine.proofs.Window.{goneBy}
+use Rattle.engine.proofs.Ahead.{ahead}
 use Rattle.history.proofs.Openings.{Home, Slot}
 use Rattle.engine.proofs.Pointers.{Sound}
 
@@ -31,6 +32,10 @@ estimate S σ p =
 -- slot s is gone by
 abbrev pub gone : Settings → State → ℕ → Bool
 gone S σ s = goneBy (S .q) (σ .control .head) (σ .control .passed) s
+
+-- slot s is worn, by the tracker's estimate
+abbrev pub wornSlot : Settings → State → ℕ → Bool
+wornSlot S σ s = leb (S .a) (estimate S σ (S .n + s))
 
 -- τ₀: the tally when the running epoch began; τ: the tally now
 abbrev pub HomeKept : Settings → State → Tally → Tally → ℕ → Type 0
@@ -53,7 +58,9 @@ pub record Inv (S : Settings) (σ : State) (τ₀ τ : Tally) : Type 0 where
   pub acts-in : (p : ℕ) → trackerAt S σ p .acts ≤ S .l
   pub counting : (p : ℕ) → CountingAt S σ p
   pub quarantines : τ .quarantines ≡ τ₀ .quarantines + quotients (S .a) (σ .counts)
-  pub passed-few : σ .control .passed ≤ 2 * quotients (S .a) (σ .counts)
+  -- for each quarantine, two slots at most are gone by or are worn ahead of the head
+  pub passed-few : σ .control .passed + ahead (wornSlot S σ) (S .q) (σ .control .head) (σ .control .passed)
+      ≤ 2 * quotients (S .a) (σ .counts)
   pub places : (x : ℕ) → x < S .n → τ .place x ≡ place S σ x
   pub homes : (x : ℕ) → x < S .n → HomeKept S σ τ₀ τ x
   pub slots : (s : ℕ) → s < S .q → SlotKept S σ τ₀ τ s

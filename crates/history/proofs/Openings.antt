@@ -1,12 +1,14 @@
 -- What is known of one row's openings in the running epoch, and how one event carries it on.
 -- o: openings so far; z: openings when the epoch began; e: the tracker's estimate of the place.
 -- Assumes nothing.
-use Prim.Native.Nat.{ℕ, suc, _+_, _-_, _*_, _<_, _≤_}
+use Prim.Native.Nat.{ℕ, suc, _+_, _*_, _<_, _≤_}
 use native.Mathlib.Omega.{arith}
-use mathlib.Core.Path.{_≡_, refl}
+use mathlib.Core.Path.{_≡_, refl, sym, _∙_}
 use mathlib.Core.Logic.{_⊎_, inl, inr, _≢_}
 use mathlib.Core.Bool.{Bool, true, false, true≢false, false≢true}
-use borrow.Author.Tests.{ne-eqb, eq-eqb}
+use lib.Dec.{leb}
+use borrow.Author.Tests.{ne-eqb, eq-eqb, le-leb, lt-leb}
+use Rattle.geometry.proofs.Cases.{lt?}
 use Rattle.tracking.proofs.View.{Grew}
 use Rattle.history.specs.Tally.{hit}
 
@@ -20,8 +22,8 @@ pub data Home (a o z e : ℕ) : Bool → Bool → Type 0 where
 pub data Slot (a o z e : ℕ) : Bool → Bool → Type 0 where
   full : o ≤ z + e → e < a → Slot a o z e false false
   free : o ≤ z + e + 1 → e ≤ a → Slot a o z e false true
-  refilled : o ≤ z + e + 2 → e < 2 * a → Slot a o z e true false
-  spent : o ≤ z + (2 * a + 3) → Slot a o z e true true
+  refilled : o ≤ z + e + 2 → e < a → Slot a o z e true false
+  spent : o ≤ z + (a + 3) → Slot a o z e true true
 
 pub hit-same : (p x : ℕ) → x ≡ p → hit p x ≡ 1
 unfolding hit
@@ -34,9 +36,21 @@ hit-other p x n = rw (ne-eqb x p n)
 below : {a e e′ : ℕ} → e < a → Grew a e e′ → e′ < a
 below h g = elim (g .1) [ inl k ↦ omega arith | inr k ↦ k ]
 
--- the estimate does not leave a bound of a or more
-within : {a e e′ : ℕ} (m : ℕ) → a ≤ m → e ≤ m → Grew a e e′ → e′ ≤ m
-within m h k g = elim (g .1) [ inl l ↦ omega arith | inr l ↦ omega arith ]
+within : {a e e′ : ℕ} → e ≤ a → Grew a e e′ → e′ ≤ a
+within h g = elim (g .1) [ inl k ↦ omega arith | inr k ↦ omega arith ]
+
+-- whether an estimate has come to the threshold does not change: of a place that is not accessed, and of one that is accessed
+-- and whose row stays
+pub worn-grew : {a e e′ : ℕ} → Grew a e e′ → leb a e′ ≡ leb a e
+worn-grew {a} {e} {e′} g =
+    elim (g .1) [ inl k ↦ rw k | inr k ↦ lt-leb a e′ k ∙ sym (lt-leb a e (omega (arith, g .0))) ]
+
+pub worn-next : (a : ℕ) {e e′ : ℕ} → e′ ≡ suc e → e′ ≢ 1 * a → leb a e′ ≡ leb a e
+worn-next a {e} {e′} s n =
+    elim (lt? e a) [
+      | inl k ↦ lt-leb a e′ (omega arith) ∙ sym (lt-leb a e k)
+      | inr k ↦ le-leb a e′ (omega arith) ∙ sym (le-leb a e k)
+    ]
 
 module _ {a : ℕ} where
   -- ---- the home of a row
@@ -71,13 +85,13 @@ module _ {a : ℕ} where
   home-returns (away h k) q g = here (omega arith) (below k g)
 
   -- the row goes from one slot to another, which is gone by
-  pub home-skipped : {gone : Bool} {o z e o′ e′ : ℕ} → Home a o z e false gone → o′ ≡ o → Home a o′ z e′ false true
-  home-skipped (away h k) q = left (omega arith)
-  home-skipped (left h) q = left (omega arith)
+  pub home-untouched : {gone : Bool} {o z e o′ e′ : ℕ} → Home a o z e false gone → o′ ≡ o → Home a o′ z e′ false true
+  home-untouched (away h k) q = left (omega arith)
+  home-untouched (left h) q = left (omega arith)
 
   -- ---- a slot
 
-  pub slot-bound : {gone f : Bool} {o z e : ℕ} → Slot a o z e gone f → o ≤ z + (2 * a + 3)
+  pub slot-bound : {gone f : Bool} {o z e : ℕ} → Slot a o z e gone f → o ≤ z + (a + 3)
   slot-bound (full h k) = omega arith
   slot-bound (free h k) = omega arith
   slot-bound (refilled h k) = omega arith
@@ -88,23 +102,30 @@ module _ {a : ℕ} where
   slot-new false z pos = full (omega arith) pos
 
   -- not opened
-  pub slot-rests : {gone f : Bool} {o z e o′ e′ : ℕ} → 0 < a → Slot a o z e gone f → o′ ≡ o → Grew a e e′ → Slot a o′ z e′ gone f
-  slot-rests pos (full h k) q g = full (omega arith) (below k g)
-  slot-rests pos (free h k) q g = free (omega arith) (within a (omega arith) k g)
-  slot-rests pos (refilled h k) q g = refilled (omega arith) (omega (arith, within (2 * a - 1) (omega arith) (omega arith) g))
-  slot-rests pos (spent h) q g = spent (omega arith)
+  pub slot-rests : {gone f : Bool} {o z e o′ e′ : ℕ} → Slot a o z e gone f → o′ ≡ o → Grew a e e′ → Slot a o′ z e′ gone f
+  slot-rests (full h k) q g = full (omega arith) (below k g)
+  slot-rests (free h k) q g = free (omega arith) (within k g)
+  slot-rests (refilled h k) q g = refilled (omega arith) (below k g)
+  slot-rests (spent h) q g = spent (omega arith)
 
   -- its row is accessed and stays
-  pub slot-opened : {gone : Bool} {o z e o′ e′ : ℕ} → Slot a o z e gone false → o′ ≡ o + 1 → e′ ≡ suc e → e′ ≢ 1 * a → e′ ≢ 2 * a → Slot a o′ z e′ gone false
-  slot-opened (full h k) q s n n2 = full (omega arith) (omega arith)
-  slot-opened (refilled h k) q s n n2 = refilled (omega arith) (omega arith)
+  pub slot-opened : {gone : Bool} {o z e o′ e′ : ℕ} → Slot a o z e gone false → o′ ≡ o + 1 → e′ ≡ suc e → e′ ≢ 1 * a → Slot a o′ z e′ gone false
+  slot-opened (full h k) q s n = full (omega arith) (omega arith)
+  slot-opened (refilled h k) q s n = refilled (omega arith) (omega arith)
 
-  -- a row is copied in: one opening where the slot was empty, two where its row was sent home
-  pub slot-filled : {f : Bool} {o z e o′ e′ : ℕ} → 0 < a → Slot a o z e false f → ((f ≡ true) × (o′ ≡ o + 1)) ⊎ ((f ≡ false) × (o′ ≡ o + 2)) → Grew a e e′ → Slot a o′ z e′ true false
-  slot-filled pos (free h k) (inl c) g = refilled (omega (arith, c .1)) (omega (arith, within a (omega arith) k g))
-  slot-filled pos (free h k) (inr c) g = absurd (true≢false (c .0))
-  slot-filled pos (full h k) (inl c) g = absurd (false≢true (c .0))
-  slot-filled pos (full h k) (inr c) g = refilled (omega (arith, c .1)) (omega (arith, below k g))
+  -- it is skipped: only an empty slot can be
+  pub slot-skipped : {gone f : Bool} {o z e o′ e′ : ℕ} → Slot a o z e gone f → o′ ≡ o → Grew a e e′ → a ≤ e′ → Slot a o′ z e′ true f
+  slot-skipped (full h k) q g w = absurd (let low = below k g in omega arith)
+  slot-skipped (free h k) q g w = spent (omega arith)
+  slot-skipped (refilled h k) q g w = absurd (let low = below k g in omega arith)
+  slot-skipped (spent h) q g w = spent (omega arith)
+
+  -- a row is copied in, where it is not worn: one opening where the slot was empty, two where its row was sent home
+  pub slot-filled : {f : Bool} {o z e o′ e′ : ℕ} → Slot a o z e false f → ((f ≡ true) × (o′ ≡ o + 1)) ⊎ ((f ≡ false) × (o′ ≡ o + 2)) → e ≤ e′ → e′ < a → Slot a o′ z e′ true false
+  slot-filled (free h k) (inl c) g low = refilled (omega (arith, c .1)) low
+  slot-filled (free h k) (inr c) g low = absurd (true≢false (c .0))
+  slot-filled (full h k) (inl c) g low = absurd (false≢true (c .0))
+  slot-filled (full h k) (inr c) g low = refilled (omega (arith, c .1)) low
 
   -- its row is accessed and copied away; the slot may have come to be gone by
   pub slot-leaves : {gone : Bool} {o z e o′ e′ : ℕ} (gone′ : Bool) → (gone ≡ true → gone′ ≡ true) → Slot a o z e gone false → o′ ≡ o + 2 → e′ ≡ suc e → Slot a o′ z e′ gone′ true

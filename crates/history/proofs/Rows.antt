@@ -1,24 +1,24 @@
 -- One access carries on what is known of every home row and of every slot. Assumes nothing.
-use Prim.Native.Nat.{ℕ, suc, _+_, _*_, _<_}
+use Prim.Native.Nat.{ℕ, suc, _+_, _*_, _<_, _≤_}
 use native.Mathlib.Omega.{arith}
 use mathlib.Core.Path.{_≡_, sym, ap, _∙_, subst}
 use mathlib.Core.Logic.{_⊎_, inl, inr, _≢_}
 use mathlib.Core.Bool.{true, false}
 use lib.Dec.{eqb}
-use borrow.Author.Tests.{ne-eqb, eq-eqb, eqb-true, eqb-false}
+use borrow.Author.Tests.{ne-eqb, eq-eqb, eqb-false, leb-true, leb-false}
 use Rattle.geometry.specs.declared.Settings.{Settings}
 use Rattle.geometry.specs.Entry.{empty}
 use Rattle.geometry.proofs.Cases.{eq?}
 use Rattle.tracking.proofs.View.{Grew}
 use Rattle.engine.specs.State.{State, forwardOf, reverseOf}
-use Rattle.engine.specs.Steps.{place}
+use Rattle.engine.specs.Steps.{place, skips}
 use Rattle.history.specs.Tally.{Tally, hit, afterStay}
 use Rattle.engine.proofs.Window.{Slide, slide-keeps}
-use Rattle.history.proofs.Openings.{Home, Slot, home-rests, home-opened, home-leaves, home-returns, home-skipped, slot-rests, slot-opened, slot-filled, slot-leaves}
+use Rattle.history.proofs.Openings.{Home, Slot, home-rests, home-opened, home-leaves, home-returns, home-untouched, slot-rests, slot-opened, slot-skipped, slot-filled, slot-leaves, worn-grew, worn-next}
 use Rattle.engine.proofs.Pointers.{Relinked, marks-none, place-is}
-use Rattle.engine.proofs.Moves.{own}
+use Rattle.engine.proofs.Moves.{not-own}
 use Rattle.history.proofs.Tallied.{Tallied, hit-home, hit-slot, hit-here, hit-away, hit-own}
-use Rattle.history.proofs.Invariant.{Inv, estimate, gone, HomeKept, SlotKept}
+use Rattle.history.proofs.Invariant.{Inv, estimate, gone, wornSlot, HomeKept, SlotKept}
 
 -- the estimates before and after an access of place p
 pub record Estimated (S : Settings) (σ σ′ : State) (p : ℕ) : Type 0 where
@@ -54,9 +54,9 @@ module _ (S : Settings) (σ : State) (τ₀ τ : Tally) (I : Inv S σ τ₀ τ) 
 
   -- ---- the row stays
 
-  module _ (rests : (m : ℕ) → 0 < m → estimate S σ′ (place S σ r) ≢ m * S .a) where
-    multiple : (x m : ℕ) → x ≡ place S σ r → 0 < m → estimate S σ′ x ≢ m * S .a
-    multiple x m e b = rw e (rests m b)
+  module _ (rests : estimate S σ′ (place S σ r) ≢ 1 * S .a) where
+    not-yet : (x : ℕ) → x ≡ place S σ r → estimate S σ′ x ≢ 1 * S .a
+    not-yet x e = rw e rests
 
     pub home-stays : (x : ℕ) → x < S .n
         → Home (S .a) ((afterStay S τ r) .openings x) (τ₀ .openings x) (estimate S σ′ x)
@@ -67,7 +67,7 @@ module _ (S : Settings) (σ : State) (τ₀ τ : Tally) (I : Inv S σ τ₀ τ) 
           | inl e ↦ rw e (elim p-is [
             | inl c ↦
                 let t : eqb (forwardOf σ r) empty ≡ true = eq-eqb (forwardOf σ r) empty (c .0) in
-                rw t (home-opened (rw t at (I .homes r row-in)) (omega (arith, hit-here S σ (I .sound) τ r row-in (I .places r row-in) (c .0))) (same-at r (sym (c .1))) (multiple r 1 (sym (c .1)) (omega arith)))
+                rw t (home-opened (rw t at (I .homes r row-in)) (omega (arith, hit-here S σ (I .sound) τ r row-in (I .places r row-in) (c .0))) (same-at r (sym (c .1))) (not-yet r (sym (c .1))))
             | inr c ↦
                 home-rests (gone S σ (forwardOf σ r)) (I .homes r row-in) (λ h g. g)
                 (omega (arith, hit-away S σ (I .sound) τ r row-in (I .places r row-in) (c .0)))
@@ -80,24 +80,44 @@ module _ (S : Settings) (σ : State) (τ₀ τ : Tally) (I : Inv S σ τ₀ τ) 
         (gone S σ s) (eqb (reverseOf σ s) empty)
     slot-stays s b =
         elim (eq? s (forwardOf σ r)) [
-          | inr n ↦ slot-rests pos (I .slots s b) (omega (arith, hit-slot S σ (I .sound) τ r row-in (I .places r row-in) s n)) (grew-slot s b n)
+          | inr n ↦ slot-rests (I .slots s b) (omega (arith, hit-slot S σ (I .sound) τ r row-in (I .places r row-in) s n)) (grew-slot s b n)
           | inl e ↦
               let c : forwardOf σ r < S .q = rw e at b in
               let at : S .n + s ≡ place S σ r = elim p-is [ inl k ↦ absurd (real s (omega arith) (e ∙ k .0)) | inr k ↦ omega (arith, k .1) ] in
               let t : eqb (reverseOf σ s) empty ≡ false = held s (ap (reverseOf σ) e ∙ own-slot c) in
               let one : hit (τ .place r) (S .n + s) ≡ 1 = rw e (hit-own S σ (I .sound) τ r row-in (I .places r row-in) c) in
-              rw t (slot-opened (rw t at (I .slots s b)) (omega arith) (same-at (S .n + s) at) (multiple (S .n + s) 1 at (omega arith)) (multiple (S .n + s) 2 at (omega arith)))
+              rw t (slot-opened (rw t at (I .slots s b)) (omega arith) (same-at (S .n + s) at) (not-yet (S .n + s) at))
         ]
+
+    -- the same slots are worn
+    pub worn-stays : (s : ℕ) → s < S .q → wornSlot S σ′ s ≡ wornSlot S σ s
+    worn-stays s b =
+        elim (eq? (S .n + s) (place S σ r)) [
+          | inl e ↦ worn-next (S .a) (same-at (S .n + s) e) (not-yet (S .n + s) e)
+          | inr n ↦ worn-grew (E .other (S .n + s) n (real (S .n + s) (omega arith)))
+        ]
+
+  -- a slot other than the row's is worn where it was
+  pub worn-rests : (s : ℕ) → s < S .q → s ≢ forwardOf σ r → wornSlot S σ′ s ≡ wornSlot S σ s
+  worn-rests s b n = worn-grew (grew-slot s b n)
 
   -- ---- the row moves to slot d
 
   module _ (d : ℕ) (τ′ : Tally) (L : Relinked S σ r d (σ′ .forward) (σ′ .reverse)) (T : Tallied S σ τ τ′ r d)
-      (sl : Slide (own σ r) (S .q) (σ .control .head) (σ .control .passed) d (σ′ .control .head) (σ′ .control .passed)) where
+      (skip-is : (s : ℕ) → s < S .q → skips S σ r s ≡ wornSlot S σ′ s)
+      (sl : Slide (skips S σ r) (S .q) (σ .control .head) (σ .control .passed) d (σ′ .control .head) (σ′ .control .passed)) where
     d-real : eqb d empty ≡ false
     d-real = ne-eqb d empty (real d (omega (arith, sl .inside)))
 
     d-other : d ≢ forwardOf σ r
-    d-other e = eqb-false (forwardOf σ r) d (sl .free) (sym e)
+    d-other = not-own S σ r d (sl .free)
+
+    -- d is not worn, and a skipped slot is
+    d-low : estimate S σ′ (S .n + d) < S .a
+    d-low = leb-false (S .a) (estimate S σ′ (S .n + d)) (sym (skip-is d (sl .inside)) ∙ sl .free)
+
+    skipped-high : (s : ℕ) → s < S .q → skips S σ r s ≡ true → S .a ≤ estimate S σ′ (S .n + s)
+    skipped-high s b e = leb-true (S .a) (estimate S σ′ (S .n + s)) (sym (skip-is s b) ∙ e)
 
     pub place-moves : (x : ℕ) → x < S .n → τ′ .place x ≡ place S σ′ x
     place-moves x b =
@@ -118,7 +138,7 @@ module _ (S : Settings) (σ : State) (τ₀ τ : Tally) (I : Inv S σ τ₀ τ) 
               home-leaves (rw t at (I .homes r row-in)) (T .home-mover (c .0))
           | inr c ↦
               let t : eqb (forwardOf σ r) empty ≡ false = ne-eqb (forwardOf σ r) empty (real (forwardOf σ r) (omega (arith, c .0))) in
-              home-skipped (rw t at (I .homes r row-in)) (T .home-absent (c .0))
+              home-untouched (rw t at (I .homes r row-in)) (T .home-absent (c .0))
         ])
 
     -- a row in a slot that is gone by stays in one
@@ -126,7 +146,7 @@ module _ (S : Settings) (σ : State) (τ₀ τ : Tally) (I : Inv S σ τ₀ τ) 
     stays-gone x b f g =
         elim (I .sound .inverse .forward x b) [
           | inl z ↦ absurd (eqb-false (forwardOf σ x) empty f z)
-          | inr c ↦ slide-keeps (own σ r) (S .q) (σ .control .head) (σ .control .passed) d (σ′ .control .head) (σ′ .control .passed) sl (forwardOf σ x) (c .0) g
+          | inr c ↦ slide-keeps (skips S σ r) (S .q) (σ .control .head) (σ .control .passed) d (σ′ .control .head) (σ′ .control .passed) sl (forwardOf σ x) (c .0) g
         ]
 
     pub home-moves : (x : ℕ) → x < S .n → HomeKept S σ′ τ₀ τ′ x
@@ -144,7 +164,7 @@ module _ (S : Settings) (σ : State) (τ₀ τ : Tally) (I : Inv S σ τ₀ τ) 
     slot-d : SlotKept S σ′ τ₀ τ′ d
     slot-d =
         let t : eqb r empty ≡ false = ne-eqb r empty (real r (omega arith)) in
-        rw (L .filled, t, sl .filled) (slot-filled pos (rw (sl .ahead) at (I .slots d (sl .inside))) (T .slot-filled) (grew-slot d (sl .inside) d-other))
+        rw (L .filled, t, sl .filled) (slot-filled (rw (sl .ahead) at (I .slots d (sl .inside))) (T .slot-filled) (grew-slot d (sl .inside) d-other .0) d-low)
 
     slot-own : forwardOf σ r < S .q → SlotKept S σ′ τ₀ τ′ (forwardOf σ r)
     slot-own b =
@@ -152,7 +172,7 @@ module _ (S : Settings) (σ : State) (τ₀ τ : Tally) (I : Inv S σ τ₀ τ) 
         let t : eqb (reverseOf σ (forwardOf σ r)) empty ≡ false = held (forwardOf σ r) (own-slot b) in
         rw (L .freed b)
         (slot-leaves (gone S σ′ (forwardOf σ r))
-        (slide-keeps (own σ r) (S .q) (σ .control .head) (σ .control .passed) d (σ′ .control .head) (σ′ .control .passed) sl (forwardOf σ r) b)
+        (slide-keeps (skips S σ r) (S .q) (σ .control .head) (σ .control .passed) d (σ′ .control .head) (σ′ .control .passed) sl (forwardOf σ r) b)
         (rw t at (I .slots (forwardOf σ r) b))
         (T .slot-freed b)
         (same-at (S .n + forwardOf σ r) at))
@@ -163,8 +183,9 @@ module _ (S : Settings) (σ : State) (τ₀ τ : Tally) (I : Inv S σ τ₀ τ) 
           | inl e ↦ subst (λ (y : ℕ). SlotKept S σ′ τ₀ τ′ y) (sym e) slot-d
           | inr n ↦ elim (eq? s (forwardOf σ r)) [
             | inl e ↦ subst (λ (y : ℕ). SlotKept S σ′ τ₀ τ′ y) (sym e) (slot-own (rw e at b))
-            | inr m ↦
-                let g : gone S σ′ s ≡ gone S σ s = elim (sl .others s b n) [ inl k ↦ k | inr k ↦ absurd (m (sym (eqb-true (forwardOf σ r) s (k .1)))) ] in
-                rw (L .others s n m, g) (slot-rests pos (I .slots s b) (T .slot-others s b n m) (grew-slot s b m))
+            | inr m ↦ rw (L .others s n m) (elim (sl .others s b n) [
+              | inl k ↦ rw k (slot-rests (I .slots s b) (T .slot-others s b n m) (grew-slot s b m))
+              | inr k ↦ rw (k .0) (slot-skipped (I .slots s b) (T .slot-others s b n m) (grew-slot s b m) (skipped-high s b (k .1)))
+            ])
           ]
         ]

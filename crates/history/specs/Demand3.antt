@@ -15,8 +15,8 @@ use Rattle.history.specs.Run.{Access, Call, rowOf, Answer, Event, events
 pub record Bounded (S : Settings) (e : Stretch) : Type 0 where
   -- each home row is opened at most A + 2 times
   pub homes : (r : ℕ) → r < S .n → openingsIn e (homeRow r) ≤ S .a + 2
-  -- each slot is opened at most 2A + 3 times
-  pub slots : (s : ℕ) → s < S .q → openingsIn e (slotRow S s) ≤ 2 * S .a + 3
+  -- each slot is opened at most A + 3 times (document 02, Ask 4)
+  pub slots : (s : ℕ) → s < S .q → openingsIn e (slotRow S s) ≤ S .a + 3
   -- there are at most floor(L / A) quarantines
   pub quarantines : quarantinesIn e ≤ S .l / S .a
 

@@ -37,12 +37,12 @@ fn skip_rows(rows: &[u16], from: usize, size: usize, place: u16) -> usize
     at
 }
 
-// The lowest entry that names the place; the number of entries where none does.
-pub fn index_of_row(rows: &[u16], place: u16) -> usize
-    ensures { λ r. ⌜ r ≡ indexOf place (now (rows .entry)) ⌝ }
+// The lowest entry from one on that names the place; the number of entries where none does. It searches one by one.
+fn search_rows(rows: &[u16], from: usize, place: u16) -> usize
+    requires { ⌜ from ≤ length (now rows) ⌝ }
+    ensures { λ r. ⌜ r ≡ from + indexOf place (drop from (now (rows .entry))) ⌝ }
 {
-    let far = skip_rows(rows, 0, 64, place);
-    let mut i = skip_rows(rows, far, 16, place);
+    let mut i = from;
     while i < rows.len() {
         if rows[i] == place {
             return i;
@@ -50,4 +50,24 @@ pub fn index_of_row(rows: &[u16], place: u16) -> usize
         i += 1;
     }
     i
+}
+
+// The lowest entry that names the place; the number of entries where none does.
+pub fn index_of_row(rows: &[u16], place: u16) -> usize
+    ensures { λ r. ⌜ r ≡ indexOf place (now (rows .entry)) ⌝ }
+{
+    let far = skip_rows(rows, 0, 64, place);
+    let near = skip_rows(rows, far, 16, place);
+    search_rows(rows, near, place)
+}
+
+// The lowest entry from one on that names the place; the number of entries where none does. It does not call the search
+// above, nor that one this: with one caller each is inlined there, and an access does not pay for a call.
+pub fn index_from(rows: &[u16], from: usize, place: u16) -> usize
+    requires { ⌜ from ≤ length (now rows) ⌝ }
+    ensures { λ r. ⌜ r ≡ from + indexOf place (drop from (now (rows .entry))) ⌝ }
+{
+    let far = skip_rows(rows, from, 64, place);
+    let near = skip_rows(rows, far, 16, place);
+    search_rows(rows, near, place)
 }

@@ -1,7 +1,7 @@
 -- Laws of the loops that scan, for any test of an entry and entries of any width: what one turn, or one block, adds.
 -- Assumes nothing.
 use Prim.Native.Nat.{ℕ, zero, suc, _+_, _<_, _≤_, zero-le}
-use native.Mathlib.Nat.{le-of-suc-le-suc, not-suc-le-zero}
+use native.Mathlib.Nat.{le-of-suc-le-suc, not-suc-le-zero, zero-add}
 use native.Mathlib.Numerals.{add-one}
 use native.Mathlib.Omega.{arith}
 use mathlib.Core.Path.{_≡_, refl, sym, ap, _∙_}
@@ -108,19 +108,28 @@ skipped-one {f} {xs} {from} {i} p h e =
       same = p .same ∙ rw (add-one, drop-cons xs i 0 h) (rw e (omega arith));
     }
 
--- the search of the whole list ends at an entry that passes, or at the end
-pub found-here : {f : ℕ → Bool} {xs : List ℕ} {i : ℕ} → Skipped f xs 0 i → i < length xs → f (getD xs i 0) ≡ true
-    → i ≡ lowest f xs
+-- the search ends at an entry that passes, or at the end
+pub found-from : {f : ℕ → Bool} {xs : List ℕ} {from i : ℕ} → Skipped f xs from i → i < length xs
+    → f (getD xs i 0) ≡ true → i ≡ from + lowest f (drop from xs)
 unfolding lowest
-found-here {f} {xs} {i} p h e =
+found-from {f} {xs} {from} {i} p h e =
     let here : lowest f (drop i xs) ≡ 0 = rw (drop-cons xs i 0 h) (rw e) in
     omega (arith, p .same)
 
-pub found-none : {f : ℕ → Bool} {xs : List ℕ} {i : ℕ} → Skipped f xs 0 i → length xs ≤ i → i ≡ lowest f xs
+pub none-from : {f : ℕ → Bool} {xs : List ℕ} {from i : ℕ} → Skipped f xs from i → length xs ≤ i
+    → i ≡ from + lowest f (drop from xs)
 unfolding lowest
-found-none {f} {xs} {i} p h =
+none-from {f} {xs} {from} {i} p h =
     let here : lowest f (drop i xs) ≡ 0 = rw (drop-of-length-le xs h) in
     omega (arith, p .same)
+
+-- and so of the whole list
+pub found-here : {f : ℕ → Bool} {xs : List ℕ} {i : ℕ} → Skipped f xs 0 i → i < length xs → f (getD xs i 0) ≡ true
+    → i ≡ lowest f xs
+found-here p h e = found-from p h e ∙ zero-add _
+
+pub found-none : {f : ℕ → Bool} {xs : List ℕ} {i : ℕ} → Skipped f xs 0 i → length xs ≤ i → i ≡ lowest f xs
+found-none p h = none-from p h ∙ zero-add _
 
 -- ---- where no entry passes, the entry at i does not
 

@@ -6,7 +6,7 @@ ghost use lib.Dec.{ltb};
 ghost use lib.ListN.{length, replicate};
 ghost use Rattle.geometry.specs.Entry.{empty};
 ghost use Rattle.scan.specs.Scan.{some};
-ghost use Rattle.tracking.specs.Choice.{choiceOf, estimateBy, followed, Within, trackedOf};
+ghost use Rattle.tracking.specs.Choice.{choiceOf, estimateBy, entryBy, followed, Within, trackedOf};
 use geometry::PhysicalRow;
 pub use tracking::Choice;
 
@@ -37,6 +37,17 @@ pub fn estimate(choice: Choice) -> u32
         Choice::Raise(_, count) => count,
         Choice::Take(_, count) => count,
         Choice::Spill(_) => 0,
+    }
+}
+
+// The entry that a way changes, of an access that has an estimate.
+pub fn entry(choice: Choice) -> usize
+    ensures { λ r. ⌜ r ≡ entryBy choice ⌝ }
+{
+    match choice {
+        Choice::Raise(i, _) => i,
+        Choice::Take(i, _) => i,
+        Choice::Spill(_spill) => 0,
     }
 }
 

@@ -12,7 +12,7 @@ use Rattle.tracking.specs.declared.Choice.{Choice}
 use Rattle.tracking.specs.declared.Choice.the-variants.{Raise, Take, Spill}
 use Rattle.scan.specs.Scan.{indexOf}
 use Rattle.tracking.specs.Track.{Tracked, track}
-use Rattle.tracking.specs.Choice.{choiceOf, estimateBy, followed, Within}
+use Rattle.tracking.specs.Choice.{choiceOf, estimateBy, entryBy, followed, Within}
 
 module _ (p : ℕ) (rows counts : List ℕ) (spill : ℕ) where
   -- ---- the way, told by what the two searches answer
@@ -66,3 +66,9 @@ module _ (p : ℕ) (rows counts : List ℕ) (spill : ℕ) where
 
   pub within-choice-rows : length rows ≡ length counts → Within (length rows) (choiceOf p rows counts spill)
   within-choice-rows long = subst (λ (k : ℕ). Within k (choiceOf p rows counts spill)) (sym long) (within-choice long)
+
+-- the entry that a way changes is one of k, if there is one at all
+pub entry-within : (k : ℕ) (choice : Choice) → 0 < k → Within k choice → entryBy choice < k
+entry-within k (Raise i count) some w = w
+entry-within k (Take i count) some w = w
+entry-within k (Spill spill) some w = some

@@ -2,3 +2,5 @@ pub mod Choices
 pub mod Sums
 pub mod Tracking
 pub mod View
+pub mod Due
+pub mod Worn

@@ -1,4 +1,5 @@
--- The tracker as the rest sees it: an estimate for each place. Nothing above this module looks into the tracker's lists.
+-- The tracker as an estimate for each place: all that `history` knows of it. (Which rows are worn is `Worn`, which estimates call
+-- for a move `Due`.)
 -- Assumes nothing.
 use Prim.Native.Nat.{ℕ, zero, suc, _+_, _*_, _/_, _<_, _≤_, zero-le}
 use native.Mathlib.Nat.{mul-le-mul-right, le-div-iff-mul-le, mul-mod-left, zero-div}

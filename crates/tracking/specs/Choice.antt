@@ -23,6 +23,12 @@ estimateBy (Raise i count) = count
 estimateBy (Take i count) = count
 estimateBy (Spill spill) = 0
 
+-- the entry that a way changes, of an access that has an estimate
+abbrev pub entryBy : Choice → ℕ
+entryBy (Raise i count) = i
+entryBy (Take i count) = i
+entryBy (Spill spill) = 0
+
 -- what following a way leaves
 abbrev pub followed : Choice → ℕ → List ℕ → List ℕ → ℕ → Tracked
 followed (Raise i count) p rows counts spill =

@@ -5,7 +5,9 @@ ghost use Prim.Native.Nat.{_<_, _≤_};
 ghost use lib.ListN.{length};
 ghost use Rattle.geometry.specs.Numbering.{slot, physical};
 ghost use Rattle.tracking.specs.Track.{isDue};
-ghost use Rattle.engine.specs.Steps.{placeBy, destinationFrom, riseTo};
+ghost use Rattle.tracking.specs.Choice.{estimateBy, entryBy};
+ghost use Rattle.engine.specs.Steps.{placeBy, destinationFrom};
+ghost use Rattle.seek.specs.Seeking.{skippedBefore, Seekable};
 ghost use Rattle.verdict.specs.Verdicts.{quarantineVerdict, lateVerdict};
 use geometry::ForwardEntry;
 use geometry::PhysicalRow;
@@ -14,6 +16,7 @@ use geometry::Ring;
 use geometry::Settings;
 use geometry::Slot;
 use geometry::VisibleRow;
+use tracking::Choice;
 
 // What is decided of an access that 1 to 7 let pass.
 pub enum Verdict {
@@ -36,86 +39,93 @@ pub fn place(s: Settings, row: VisibleRow, entry: ForwardEntry) -> PhysicalRow
     geometry::slot_row(s, entry.slot())
 }
 
-// Returns the destination of a row with that forward entry.
-fn destination(s: Settings, head: u32, entry: ForwardEntry) -> Slot
-    requires { ⌜ (head < s .q) × (s .q ≤ 5500) ⌝ }
-    ensures { λ r. ⌜ r ≡ slot (destinationFrom s head (entry .0)) ⌝ }
+// Returns the slot after so many slots from `head` on, round Q.
+fn destination(s: Settings, head: u32, over: u32) -> Slot
+    requires { ⌜ (head < s .q) × (over < s .q) × (s .q ≤ 5500) ⌝ }
+    ensures { λ r. ⌜ r ≡ slot (destinationFrom s head over) ⌝ }
 {
-    if (entry.0 as u32) == head {
-        return Slot(((head + 1) % s.q) as u16);
-    }
-    Slot(head as u16)
-}
-
-// Returns by how much a move to slot d raises `passed`.
-fn rise(s: Settings, head: u32, d: Slot) -> u32
-    requires { ⌜ (head < s .q) × (s .q ≤ 5500) ⌝ }
-    ensures { λ r. ⌜ r ≡ riseTo s head (d .0) ⌝ }
-{
-    ((d.0 as u32) + s.q - head) % s.q + 1
+    Slot(((head + over) % s.q) as u16)
 }
 
 // Judges 9 and the destination's 7 for a row to be quarantined, and returns where it goes where neither applies.
-// entry: the row's forward entry.
+// entry: the row's forward entry; changed: the tracker's entry that step 2 will change.
 fn quarantine(
     s: Settings,
     ring: Ring,
     entry: ForwardEntry,
+    changed: usize,
     forward: &[u16],
     reverse: &[u16],
+    rows: &[u16],
+    counts: &[u32],
 ) -> Verdict
     requires { ⌜
-        (length (now forward) ≡ s .n) × (length (now reverse) ≡ s .q)
-        × (ring .head < s .q) × (ring .passed ≤ s .q) × (s .q ≤ 5500) ⌝ }
-    ensures { λ r. ⌜ r ≡ quarantineVerdict s ring (now (forward .entry)) (now (reverse .entry)) (entry .0) ⌝ }
+        Seekable s changed (now rows) (now counts)
+        × (length (now forward) ≡ s .n) × (length (now reverse) ≡ s .q)
+        × (ring .head < s .q) × (ring .passed ≤ s .q) ⌝ }
+    ensures { λ r.
+        let over = skippedBefore s (ring .head) (entry .0) changed (now (rows .entry)) (now (counts .entry)) in
+        ⌜ r ≡ quarantineVerdict s ring (now (forward .entry)) (now (reverse .entry)) over ⌝ }
 {
-    let d = destination(s, ring.head, entry);
-    let up = rise(s, ring.head, d);
-    if s.q < ring.passed + up {
+    let over = seek::skipped(s, ring, entry, changed, rows, counts);
+    if s.q <= ring.passed + over {
         return Verdict::Stop(engine::QUARANTINE);
     }
+    let d = destination(s, ring.head, over);
     let at = d.0 as usize;
     let held = ReverseEntry(reverse[at]);
     if !ladder::points_back(held.0, s.n, forward, d.0 as u32) {
         return Verdict::Stop(engine::POINTERS);
     }
-    Verdict::Go(d, held, up)
+    Verdict::Go(d, held, over + 1)
 }
 
-// Tells whether an estimate calls for a move: there is one, and it is a multiple of A.
+// Tells whether an estimate calls for a move: there is one, and it is a multiple of A. 0 stands for none and is below A, so
+// that what is below A is told without a division.
 fn is_due(s: Settings, estimate: u32) -> bool
     requires { ⌜ 1 ≤ s .a ⌝ }
     ensures { λ r. ⌜ r ≡ isDue (s .a) estimate ⌝ }
 {
-    if estimate == 0 {
+    if estimate < s.a {
         return false;
     }
     estimate % s.a == 0
 }
 
-// Judges 8, 9 and the destination's 7, and returns where a row with that forward entry and estimate goes where none
-// applies.
+// Judges 8, 9 and the destination's 7, and returns where a row with that forward entry goes where none applies. choice:
+// the way that step 2 will go. In a history a row that is due has an estimate of A, so that is asked first; since
+// `quarantine` is called twice, it is not inlined, and an access that moves nothing does not pay for it.
 pub fn decide(
     s: Settings,
     ring: Ring,
     acts: u32,
     entry: ForwardEntry,
-    estimate: u32,
+    choice: Choice,
     forward: &[u16],
     reverse: &[u16],
+    rows: &[u16],
+    counts: &[u32],
 ) -> Verdict
     requires { ⌜
-        (1 ≤ s .a) × (length (now forward) ≡ s .n) × (length (now reverse) ≡ s .q)
-        × (ring .head < s .q) × (ring .passed ≤ s .q) × (s .q ≤ 5500) ⌝ }
+        (1 ≤ s .a) × Seekable s (entryBy choice) (now rows) (now counts)
+        × (length (now forward) ≡ s .n) × (length (now reverse) ≡ s .q)
+        × (ring .head < s .q) × (ring .passed ≤ s .q) ⌝ }
     ensures { λ r.
-        let due = isDue (s .a) estimate in
-        ⌜ r ≡ lateVerdict s ring acts (now (forward .entry)) (now (reverse .entry)) (entry .0) due ⌝ }
+        let due = isDue (s .a) (estimateBy choice) in
+        let changed = entryBy choice in
+        let over = skippedBefore s (ring .head) (entry .0) changed (now (rows .entry)) (now (counts .entry)) in
+        ⌜ r ≡ lateVerdict s ring acts (now (forward .entry)) (now (reverse .entry)) over due ⌝ }
 {
     if acts == s.l {
         return Verdict::Stop(engine::EPOCH);
     }
+    let estimate = tracker::estimate(choice);
+    let changed = tracker::entry(choice);
+    if estimate == s.a {
+        return quarantine(s, ring, entry, changed, forward, reverse, rows, counts);
+    }
     if !is_due(s, estimate) {
         return Verdict::Stay;
     }
-    quarantine(s, ring, entry, forward, reverse)
+    quarantine(s, ring, entry, changed, forward, reverse, rows, counts)
 }

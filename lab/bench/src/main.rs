@@ -9,14 +9,12 @@ mod measure;
 mod report;
 mod runner;
 mod stream;
+mod worn;
 
 use measure::{measure, Cell, ROUNDS};
 use std::process::ExitCode;
 use std::time::Instant;
 use stream::{stream, KINDS};
-
-const WIDTHS: [u32; 2] = [64, 8192];
-const ENTRIES: [u32; 3] = [16, 256, 4096];
 
 struct Options {
     markdown: bool,
@@ -40,12 +38,10 @@ fn run() -> Result<Vec<Cell>, String> {
     let mut cells = Vec::new();
     for kind in KINDS {
         report::print_head(kind);
-        for w in WIDTHS {
-            for k in ENTRIES {
-                let cell = measure(&stream(kind, k, w))?;
-                report::print_row(&cell);
-                cells.push(cell);
-            }
+        for (w, k) in kind.sizes() {
+            let cell = measure(&stream(kind, k, w))?;
+            report::print_row(&cell);
+            cells.push(cell);
         }
     }
     Ok(cells)

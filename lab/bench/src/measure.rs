@@ -15,6 +15,8 @@ pub struct Cell {
     pub w: u32,
     pub k: u32,
     pub accesses: u64,
+    /// The number that each of them got.
+    pub number: u32,
     /// Time of one access.
     pub nanoseconds: [f64; RUNNERS.len()],
     /// Accesses of the proved engine in the time of one access of this engine, within a round.
@@ -27,26 +29,40 @@ fn median(figures: impl Iterator<Item = f64>) -> f64 {
     sorted.get(sorted.len() / 2).copied().unwrap_or(f64::NAN)
 }
 
-/// Every engine accepts each access, moves what the stream announces, and reads and leaves what the first one does.
+/// Fails where two memories differ.
+fn alike(place: &str, what: &str, m: &Memory, expected: &Memory) -> Result<(), String> {
+    m.difference(expected).map_or(Ok(()), |difference| Err(format!("{place}: {what}: {difference}")))
+}
+
+/// Every engine reaches the start, gives each access the number that the stream announces and moves what it announces,
+/// reads and leaves what the first one does, and leaves the start where its accesses are refused.
 fn judge(stream: &Stream, m: &mut Memory, buffer: &mut [u8]) -> Result<(), String> {
     let mut first: Option<(u64, Memory)> = None;
-    for Runner { name, census, .. } in RUNNERS {
-        let [accepted, moved, sent_home, sum] = census(stream, m, buffer);
-        let found = (accepted, moved, sent_home, m.control.spill);
-        let announced = (stream.reads(), stream.moved, stream.sent_home, stream.spill);
+    for Runner { name, reach, census, .. } in RUNNERS {
         let place = format!("{name} on {} with {:?}", stream.kind.name(), stream.s);
+        if stream.lead.is_some() {
+            let mut reached = stream.raw();
+            reach(stream, &mut reached, buffer).map_err(|what| format!("{place}: {what}"))?;
+            alike(&place, "another start", &reached, &stream.start)?;
+        }
+        let [numbered, moved, sent_home, sum] = census(stream, m, buffer);
+        let found = (numbered, moved, sent_home, m.control.spill);
+        let announced = (stream.reads(), stream.moved, stream.sent_home, stream.spill);
         if found != announced {
-            return Err(format!("{place}: accepted, moved, sent home, spill {found:?}, expected {announced:?}"));
+            return Err(format!(
+                "{place}: reads that get {}, moved, sent home, spill {found:?}, expected {announced:?}",
+                stream.number
+            ));
         }
         match &first {
             None => first = Some((sum, m.clone())),
             Some((expected, _)) if sum != *expected => return Err(format!("{place}: other bytes read")),
-            Some((_, expected)) => {
-                if let Some(what) = m.difference(expected) {
-                    return Err(format!("{place}: other memory: {what}"));
-                }
-            }
+            Some((_, expected)) => alike(&place, "other memory", m, expected)?,
         }
+        if stream.number == 0 {
+            stream.rewind(m);
+        }
+        alike(&place, "not back at the start", m, &stream.start)?;
     }
     Ok(())
 }
@@ -66,7 +82,7 @@ pub fn measure(stream: &Stream) -> Result<Cell, String> {
         for turn in 0..ORDER.len() {
             let at = ORDER[(round + turn) % ORDER.len()];
             let (time, answers) = (RUNNERS[at].pass)(stream, &mut m, buffer);
-            if *expected.get_or_insert(answers) != answers || answers.numbers != 0 {
+            if *expected.get_or_insert(answers) != answers || answers.others != 0 {
                 return Err(format!("{} on {}: other answers", RUNNERS[at].name, stream.kind.name()));
             }
             seconds[at] = time.as_secs_f64();
@@ -80,6 +96,7 @@ pub fn measure(stream: &Stream) -> Result<Cell, String> {
         w: stream.s.w,
         k: stream.s.k,
         accesses: accesses * (ROUNDS * RUNNERS.len()) as u64,
+        number: stream.number,
         nanoseconds: std::array::from_fn(time),
         ratios: std::array::from_fn(ratio),
     })

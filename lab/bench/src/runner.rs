@@ -55,18 +55,19 @@ engine!(Idiomatic, engines::idiomatic);
 engine!(Tuned, engines::tuned);
 engine!(Native, native::tuned);
 
-/// What the answers of one pass were: the refusal numbers, and a checksum over the answers and the bytes read. It is
-/// kept within the time that is taken, so it is short.
+/// What the answers of one pass were: whether a call got another number than the stream announces, and a checksum over
+/// the answers and the bytes read. It is kept within the time that is taken, so it is short.
 #[derive(Clone, Copy, PartialEq, Eq, Debug, Default)]
 pub struct Answers {
-    pub numbers: u32,
+    /// Not 0 where a number is another one.
+    pub others: u32,
     sum: u64,
 }
 
 impl Answers {
     #[inline]
-    fn note(&mut self, a: &Answer, byte: u8) {
-        self.numbers |= a.number;
+    fn note(&mut self, a: &Answer, number: u32, byte: u8) {
+        self.others |= a.number ^ number;
         self.sum = self.sum.rotate_left(7) ^ a.place ^ u64::from(a.slot) << 20 ^ u64::from(a.row) << 40;
         self.sum = self.sum.wrapping_add(u64::from(byte) ^ u64::from(a.estimate) << 8);
     }
@@ -81,10 +82,10 @@ fn pass<E: Engine>(stream: &Stream, m: &mut Memory, buffer: &mut [u8]) -> (Durat
         let begun = thread_time();
         for &step in &stream.steps {
             if step == TICK {
-                answers.numbers |= E::tick(&stream.s, m);
+                answers.others |= E::tick(&stream.s, m);
             } else {
                 let answer = E::read(&stream.s, m, step, buffer);
-                answers.note(&answer, buffer[buffer.len() / 2]);
+                answers.note(&answer, stream.number, buffer[buffer.len() / 2]);
             }
         }
         time += thread_time() - begun;
@@ -92,12 +93,26 @@ fn pass<E: Engine>(stream: &Stream, m: &mut Memory, buffer: &mut [u8]) -> (Durat
     (time, answers)
 }
 
-/// Set-up, and then the steps once: accepted reads, rows moved, rows sent home, and the checksum of each byte read.
+/// Set-up and then the steps that lead to the start. Every call must be accepted.
+fn reach<E: Engine>(stream: &Stream, m: &mut Memory, buffer: &mut [u8]) -> Result<(), String> {
+    let s = &stream.s;
+    let number = E::set_up(s, m);
+    if number != 0 {
+        return Err(format!("set-up gets {number}"));
+    }
+    for (at, &step) in stream.lead.iter().flatten().enumerate() {
+        let number = if step == TICK { E::tick(s, m) } else { E::read(s, m, step, buffer).number };
+        if number != 0 {
+            return Err(format!("step {at} after set-up gets {number}"));
+        }
+    }
+    Ok(())
+}
+
+/// The steps of the stream once, from its start: reads that got its number, rows moved, rows sent home, and the checksum
+/// of each byte in the buffer after a read.
 fn census<E: Engine>(stream: &Stream, m: &mut Memory, buffer: &mut [u8]) -> [u64; 4] {
     let mut seen = [0; 4];
-    if E::set_up(&stream.s, m) != 0 {
-        return seen;
-    }
     stream.rewind(m);
     for &step in &stream.steps {
         if step == TICK {
@@ -105,7 +120,7 @@ fn census<E: Engine>(stream: &Stream, m: &mut Memory, buffer: &mut [u8]) -> [u64
             continue;
         }
         let a = E::read(&stream.s, m, step, buffer);
-        seen[0] += u64::from(a.number == 0);
+        seen[0] += u64::from(a.number == stream.number);
         seen[1] += u64::from(a.slot != NONE);
         seen[2] += u64::from(a.row != NONE);
         seen[3] = buffer.iter().fold(seen[3], |sum, &byte| (sum ^ u64::from(byte)).wrapping_mul(0x0100_0000_01B3));
@@ -116,7 +131,12 @@ fn census<E: Engine>(stream: &Stream, m: &mut Memory, buffer: &mut [u8]) -> [u64
 pub struct Runner {
     pub name: &'static str,
     pub pass: fn(&Stream, &mut Memory, &mut [u8]) -> (Duration, Answers),
+    pub reach: fn(&Stream, &mut Memory, &mut [u8]) -> Result<(), String>,
     pub census: fn(&Stream, &mut Memory, &mut [u8]) -> [u64; 4],
+}
+
+const fn runner<E: Engine>(name: &'static str) -> Runner {
+    Runner { name, pass: pass::<E>, reach: reach::<E>, census: census::<E> }
 }
 
 pub const PROVED: usize = 0;
@@ -126,10 +146,10 @@ pub const NATIVE: usize = 3;
 
 /// `native` is the tuned engine built for this very processor.
 pub const RUNNERS: [Runner; 4] = [
-    Runner { name: "proved", pass: pass::<Proved>, census: census::<Proved> },
-    Runner { name: "idiomatic", pass: pass::<Idiomatic>, census: census::<Idiomatic> },
-    Runner { name: "tuned", pass: pass::<Tuned>, census: census::<Tuned> },
-    Runner { name: "native", pass: pass::<Native>, census: census::<Native> },
+    runner::<Proved>("proved"),
+    runner::<Idiomatic>("idiomatic"),
+    runner::<Tuned>("tuned"),
+    runner::<Native>("native"),
 ];
 
 /// The order in a round. A processor may run slower for a while after wide vector instructions: so the idiomatic engine,

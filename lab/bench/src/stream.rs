@@ -1,10 +1,14 @@
 //! The streams of accesses that are timed, each from a memory that a history of accepted calls can leave.
 
+use crate::worn;
 use model::memory::{Control, Memory, Settings};
 use model::rng::Rng;
 
 /// In place of a row: a tick.
 pub const TICK: u32 = 65_535;
+
+/// The mark of an empty entry.
+const EMPTY: u16 = 65_535;
 
 /// Rows that the streams of hits and of misses take in a random order; few, so that their bytes stay in the cache.
 const FEW: usize = 16;
@@ -23,9 +27,17 @@ pub enum Kind {
     /// Each row is read A times, then the next: the A-th access moves it, and as all slots are taken by then it also
     /// sends a row home, two copies for A accesses. A tick ends each epoch, and its time counts.
     Hammering,
+    /// The tracker is full, and each access moves a row. Of the slots that the head has not gone by, three of four are
+    /// worn: it passes three for each move, and sends a row home from the fourth.
+    WornSlots,
+    /// The tracker is full, and all slots that the head has not gone by are worn, as many as a history can leave. Each
+    /// access would move its row and is refused with 9.
+    Nines,
 }
 
-pub const KINDS: [Kind; 4] = [Kind::Hits, Kind::Misses, Kind::NewRows, Kind::Hammering];
+pub const KINDS: [Kind; 6] = [Kind::Hits, Kind::Misses, Kind::NewRows, Kind::Hammering, Kind::WornSlots, Kind::Nines];
+
+const WIDTHS: [u32; 2] = [64, 8192];
 
 impl Kind {
     pub fn name(self) -> &'static str {
@@ -34,16 +46,31 @@ impl Kind {
             Kind::Misses => "misses",
             Kind::NewRows => "new rows",
             Kind::Hammering => "hammering",
+            Kind::WornSlots => "worn slots",
+            Kind::Nines => "nines",
         }
     }
 
-    /// Settings by which every access is accepted.
+    /// The sizes W and K that cells are made for. With 16 entries an epoch has at most 16 worn slots, too few to be
+    /// timed; and W does not bear on an access that is refused.
+    pub fn sizes(self) -> Vec<(u32, u32)> {
+        let entries: &[u32] = match self {
+            Kind::Nines => return vec![(64, 4096)],
+            Kind::WornSlots => &[256, 4096],
+            _ => &[16, 256, 4096],
+        };
+        WIDTHS.iter().flat_map(|&w| entries.iter().map(move |&k| (w, k))).collect()
+    }
+
+    /// The other settings. By those of all kinds but nines every access is accepted.
     pub fn settings(self) -> &'static str {
         match self {
             Kind::Hits => "N = K, Q = 2, A = 65535, L = 1000000; no row is moved",
             Kind::Misses => "N = K + 16, Q = 2, A = 65535, L = 1100000 or 325 K; no row is moved",
             Kind::NewRows => "N = 2 K + 2, Q = 2, A = 65535, L = 1000000; no row is moved",
             Kind::Hammering => "A = 8, L = 128, Q = 32, N = 40; every eighth access moves a row and sends one home",
+            Kind::WornSlots => "A = 2, L = 2 K + 1, Q = 448, N = K + 256; each access moves a row past 3 worn slots",
+            Kind::Nines => "A = 2, L = 8193, Q = 5500, N = 6846; each access is refused, all 2750 slots left are worn",
         }
     }
 }
@@ -53,8 +80,12 @@ pub struct Stream {
     pub s: Settings,
     /// The memory at the start.
     pub start: Memory,
-    /// Rows to read, or ticks. Each access is accepted.
+    /// Rows to read after set-up, or ticks, by which the start is reached; none where there are too many of them.
+    pub lead: Option<Vec<u32>>,
+    /// Rows to read, or ticks.
     pub steps: Vec<u32>,
+    /// The number that each access gets.
+    pub number: u32,
     /// How often the steps are made in one pass; before each time the tracker and the control record start over.
     pub times: usize,
     /// What one time must do: rows moved, rows sent home, and spill at the end.
@@ -63,16 +94,48 @@ pub struct Stream {
     pub spill: u32,
 }
 
-/// Memory as set-up leaves it, with bytes that tell the rows apart.
-fn new_memory(s: &Settings) -> Memory {
-    let mut m = Memory::raw(s, 0xFF);
-    m.counts.fill(0);
-    m.control = Control::default();
+/// Memory before set-up, with bytes that tell the rows apart.
+fn raw_memory(s: &Settings) -> Memory {
+    let mut m = Memory::raw(s, 0xA5);
     for (row, part) in m.store.chunks_exact_mut(s.w as usize).enumerate() {
         let first = row.wrapping_mul(2_654_435_761) >> 7;
         part.iter_mut().enumerate().for_each(|(column, byte)| *byte = (first + column) as u8);
     }
     m
+}
+
+/// The same memory as set-up leaves it.
+pub fn new_memory(s: &Settings) -> Memory {
+    let mut m = raw_memory(s);
+    [&mut m.forward, &mut m.reverse, &mut m.rows].into_iter().for_each(|table| table.fill(EMPTY));
+    m.counts.fill(0);
+    m.control = Control::default();
+    m
+}
+
+/// The row sits in the slot, and its bytes are there as well as at its home.
+pub fn seat(s: &Settings, m: &mut Memory, row: u32, slot: u32) {
+    m.forward[row as usize] = slot as u16;
+    m.reverse[slot as usize] = row as u16;
+    copy_of(s, m, row, slot);
+}
+
+/// The slot has the bytes of the row.
+pub fn copy_of(s: &Settings, m: &mut Memory, row: u32, slot: u32) {
+    let (w, row, slot) = (s.w as usize, row as usize, s.n as usize + slot as usize);
+    m.store.copy_within(row * w..(row + 1) * w, slot * w);
+}
+
+/// Steps after set-up by which the rows 0 to Q - 1 come to sit in the slots of the same numbers: each is read A times. A
+/// tick ends each epoch, which has as many rows as L allows.
+pub fn fill_slots(s: &Settings) -> Vec<u32> {
+    let rows: Vec<u32> = (0..s.q).collect();
+    let epochs = rows.chunks((s.l / s.a) as usize);
+    epochs.flat_map(|rows| rows.iter().flat_map(|&row| again(row, s.a)).chain([TICK])).collect()
+}
+
+pub fn again(row: u32, times: u32) -> impl Iterator<Item = u32> {
+    std::iter::repeat_n(row, times as usize)
 }
 
 /// The tracker after each of the rows 0 to K - 1 was read `count` times, which moved none.
@@ -99,6 +162,8 @@ pub fn stream(kind: Kind, k: u32, w: u32) -> Stream {
         Kind::Misses => misses(k, w, wanted),
         Kind::NewRows => new_rows(k, w, wanted),
         Kind::Hammering => hammering(k, w, wanted),
+        Kind::WornSlots => worn::worn_slots(k, w, wanted),
+        Kind::Nines => worn::nines(k, w),
     }
 }
 
@@ -108,8 +173,8 @@ fn hits(k: u32, w: u32, wanted: usize) -> Stream {
     let mut start = new_memory(&s);
     fill_tracker(&s, &mut start, 1);
     let few: Vec<u32> = (0..FEW as u32).map(|i| (2 * i + 1) * k / (2 * FEW as u32)).collect();
-    let steps = any_of(&few, wanted);
-    Stream { kind: Kind::Hits, s, start, steps, times: 1, moved: 0, sent_home: 0, spill: 0 }
+    let (lead, steps) = (Some((0..k).collect()), any_of(&few, wanted));
+    Stream { kind: Kind::Hits, s, start, lead, steps, number: 0, times: 1, moved: 0, sent_home: 0, spill: 0 }
 }
 
 /// The counts are as high as L allows, so that many accesses fit below them.
@@ -120,16 +185,16 @@ fn misses(k: u32, w: u32, wanted: usize) -> Stream {
     fill_tracker(&s, &mut start, count);
     let few: Vec<u32> = (k..s.n).collect();
     let length = wanted.min(count as usize);
-    let (steps, times) = (any_of(&few, length), wanted.div_ceil(length));
-    Stream { kind: Kind::Misses, s, start, steps, times, moved: 0, sent_home: 0, spill: length as u32 }
+    let (steps, times, spill) = (any_of(&few, length), wanted.div_ceil(length), length as u32);
+    Stream { kind: Kind::Misses, s, start, lead: None, steps, number: 0, times, moved: 0, sent_home: 0, spill }
 }
 
 fn new_rows(k: u32, w: u32, wanted: usize) -> Stream {
     let s = Settings { n: 2 * k + 2, q: 2, w, k, a: 65_535, l: 1_000_000 };
     let start = new_memory(&s);
     let steps = (0..wanted as u32).map(|at| at % s.n).collect();
-    let spill = wanted as u32 / (k + 1);
-    Stream { kind: Kind::NewRows, s, start, steps, times: 1, moved: 0, sent_home: 0, spill }
+    let (lead, spill) = (Some(Vec::new()), wanted as u32 / (k + 1));
+    Stream { kind: Kind::NewRows, s, start, lead, steps, number: 0, times: 1, moved: 0, sent_home: 0, spill }
 }
 
 /// Q is twice L / A, so that there is a slot for each move. At the start all slots are taken.
@@ -139,22 +204,17 @@ fn hammering(k: u32, w: u32, wanted: usize) -> Stream {
     let q = 2 * moves;
     let s = Settings { n: q + 8, q, w, k, a, l: a * moves };
     let mut start = new_memory(&s);
-    for slot in 0..q as u16 {
-        start.forward[usize::from(slot)] = slot;
-        start.reverse[usize::from(slot)] = slot;
-        let (from, to) = (usize::from(slot) * w as usize, (s.n as usize + usize::from(slot)) * w as usize);
-        start.store.copy_within(from..from + w as usize, to);
-    }
+    (0..q).for_each(|slot| seat(&s, &mut start, slot, slot));
     let epochs = (wanted as u32).div_ceil(s.l);
     let mut steps = Vec::with_capacity((epochs * (s.l + 1)) as usize);
     for turn in 0..epochs * moves {
-        steps.extend(std::iter::repeat_n((q + turn) % s.n, a as usize));
+        steps.extend(again((q + turn) % s.n, a));
         if (turn + 1) % moves == 0 {
             steps.push(TICK);
         }
     }
-    let moved = u64::from(epochs * moves);
-    Stream { kind: Kind::Hammering, s, start, steps, times: 1, moved, sent_home: moved, spill: 0 }
+    let (lead, moved) = (Some(fill_slots(&s)), u64::from(epochs * moves));
+    Stream { kind: Kind::Hammering, s, start, lead, steps, number: 0, times: 1, moved, sent_home: moved, spill: 0 }
 }
 
 impl Stream {
@@ -163,10 +223,20 @@ impl Stream {
         self.steps.iter().filter(|&&step| step != TICK).count() as u64
     }
 
-    /// Puts the memory back to the start; the store only where rows are moved.
+    /// The memory that is lent to set-up.
+    pub fn raw(&self) -> Memory {
+        raw_memory(&self.s)
+    }
+
+    /// Puts the memory back to the start; the store only in the slots that have another row. The other parts have their
+    /// bytes still, since nothing is written but by moves.
     pub fn rewind(&self, m: &mut Memory) {
         if self.moved > 0 {
-            m.store.copy_from_slice(&self.start.store);
+            let (w, n) = (self.s.w as usize, self.s.n as usize);
+            for slot in (0..self.s.q as usize).filter(|&slot| m.reverse[slot] != self.start.reverse[slot]) {
+                let part = (n + slot) * w..(n + slot + 1) * w;
+                m.store[part.clone()].copy_from_slice(&self.start.store[part]);
+            }
             m.forward.copy_from_slice(&self.start.forward);
             m.reverse.copy_from_slice(&self.start.reverse);
         }

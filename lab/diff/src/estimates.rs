@@ -1,5 +1,6 @@
 //! What an estimate tells of its place (document 02, Ask 2), judged from outside: the judge is fed the calls, their answers
-//! and `spill` as the call left it.
+//! and `spill` as the call left it. A place whose estimate has come to A is left, and no row moves to it again in the epoch
+//! (Ask 4) or is sent home to it; so no estimate is above A.
 
 use model::memory::{Answer, Call, Settings, NONE};
 
@@ -47,8 +48,7 @@ impl Estimates {
             self.latest[place] = estimate;
             self.since[place] = 0;
             moved == estimate.is_multiple_of(s.a)
-                && least <= estimate
-                && u64::from(estimate) <= (u64::from(latest / s.a) + 1) * u64::from(s.a)
+                && (least..=s.a).contains(&estimate)
                 && (accesses..=accesses + spill).contains(&estimate)
         };
         if holds && spill < s.a {

@@ -79,6 +79,58 @@ fn near_sound(rng: &mut Rng, s: &Settings) -> Memory {
     m
 }
 
+/// Settings and a tracker that names slots from the head on, some of them twice or more often and with counts about A. So
+/// the head often passes slots, all of them now and then; and what the lowest entry says, and what step 2 has just changed,
+/// often decides.
+fn worn(rng: &mut Rng) -> (Settings, Memory) {
+    let q = match rng.below(600) {
+        0 => rng.skewed(41, 5_500),
+        1..=200 => rng.between(17, 40),
+        _ => rng.between(2, 5),
+    };
+    let n = rng.between(1, 6);
+    let k = if rng.once_in(2) { 2 * q } else { rng.between(q.div_ceil(2), 2 * q + 2) }.min(4_096);
+    let a = rng.between(1, 3);
+    let l = a * (k + 1) - 1;
+    let [n, q, w, k, a, l] = [n, q, rng.between(1, 2), k, a, l].map(|x| x as u32);
+    let s = Settings { n, q, w, k, a, l };
+    let mut m = near_sound(rng, &s);
+    m.control.acts = rng.between(u64::from((a + 1).min(l - 1)), u64::from(l - 1)) as u32;
+    m.control.spill = if rng.once_in(4) { rng.below(u64::from(a)) as u32 } else { a - 1 };
+    let Control { head, spill, acts, .. } = m.control;
+    // The entries name the slots from the head on, in turn and round again, or in the reverse order. One in so many names
+    // any slot instead, and one in so many counts is below A.
+    let backwards = rng.once_in(3);
+    let (astray, low) = (rng.pick(&[3, 16, 256]), rng.pick(&[2, 8, 256]));
+    for at in 0..k {
+        let in_turn = if backwards { k - 1 - at } else { at };
+        let ahead = if rng.once_in(astray) { rng.below(u64::from(q)) as u32 } else { in_turn };
+        m.rows[at as usize] = (n + (head + ahead) % q) as u16;
+        let count = if rng.once_in(low) { rng.pick(&[0, a - 1, spill]) } else { rng.pick(&[a, a, a + 1, 2 * a - 1]) };
+        m.counts[at as usize] = count.min(acts);
+    }
+    // Rows at home, which no entry names so far.
+    for row in 0..n as usize {
+        if rng.once_in(2) {
+            if let Some(entry) = m.reverse.get_mut(usize::from(m.forward[row])) {
+                *entry = 65_535;
+            }
+            m.forward[row] = 65_535;
+        }
+    }
+    // An entry to take, or to know a row by; often one of those that a later one repeats.
+    let among = if rng.once_in(2) { k } else { k.min(q) };
+    let at = rng.below(u64::from(among)) as usize;
+    m.counts[at] = rng.pick(&[spill, spill, a - 1]).min(acts);
+    if rng.once_in(3) {
+        m.rows[at] = rng.below(u64::from(n)) as u16;
+    }
+    if !rng.once_in(4) {
+        m.control.passed = rng.pick(&[0, 0, 0, 1]);
+    }
+    (s, m)
+}
+
 /// One thing spoilt.
 fn spoil(rng: &mut Rng, s: &Settings, m: &mut Memory) {
     fn put<T>(rng: &mut Rng, table: &mut [T], value: T) {
@@ -171,8 +223,13 @@ fn call(rng: &mut Rng, s: &Settings) -> Call {
 
 /// One memory and a few calls on it.
 pub fn case(rng: &mut Rng, fault: Fault, counts: &mut Counts) -> Result<(), String> {
-    let s = small(rng);
-    let mut memory = if rng.once_in(5) { noise(rng, &s) } else { near_sound(rng, &s) };
+    let (s, mut memory) = if rng.once_in(4) {
+        worn(rng)
+    } else {
+        let s = small(rng);
+        let memory = if rng.once_in(5) { noise(rng, &s) } else { near_sound(rng, &s) };
+        (s, memory)
+    };
     for _ in 0..rng.pick(&[0, 0, 1, 1, 2]) {
         spoil(rng, &s, &mut memory);
     }

@@ -54,7 +54,8 @@ fn settings(n: u32, q: u32, k: u32, a: u32, l: u32) -> Settings {
     Settings { n, q, w: 1, k, a, l }
 }
 
-/// Document 01's trace, step by step: number, place, estimate (worked out by hand), slot moved to, row sent home.
+/// Document 01's trace with the lines of document 02's Ask 4, step by step: number, place, estimate (worked out by hand),
+/// slot moved to, row sent home.
 pub fn printed_trace(counts: &mut Counts) -> Result<(), String> {
     let steps = [1, 1, 1, 1, 1, 1, TICK, 1, 1, 2, 2, 3, TICK, 3, 3, 2, 2];
     let printed = [
@@ -68,13 +69,13 @@ pub fn printed_trace(counts: &mut Counts) -> Result<(), String> {
         (0, 5, 1, NONE, NONE),
         (0, 5, 2, 0, NONE),
         (0, 2, 1, NONE, NONE),
-        (0, 2, 2, 1, NONE),
+        (9, 0, 0, NONE, NONE),
         (0, 3, 0, NONE, NONE),
         (0, 0, 0, NONE, NONE),
         (0, 3, 1, NONE, NONE),
-        (0, 3, 2, 0, 1),
-        (0, 5, 1, NONE, NONE),
-        (9, 0, 0, NONE, NONE),
+        (0, 3, 2, 1, NONE),
+        (0, 2, 1, NONE, NONE),
+        (0, 2, 2, 0, 1),
     ];
     let mut stream = Stream::new(settings(4, 2, 2, 2, 5), counts)?;
     for (at, (step, line)) in steps.into_iter().zip(printed).enumerate() {
@@ -86,28 +87,41 @@ pub fn printed_trace(counts: &mut Counts) -> Result<(), String> {
     stream.end()
 }
 
-/// A stream that attains A + 2 at row 1's home, and one that attains 2A + 3 at slot 0, both in their second epoch.
+/// Streams that attain the figures: A + 2 at row 0's home, in its second epoch; A + 3 at slot 0, in its second epoch; and
+/// a 9 with one slot less than suffices, in its third.
 pub fn attained(a: u32, counts: &mut Counts) -> Result<(), String> {
-    let burst = |row: u32| std::iter::repeat_n(row, a as usize);
-    let run = |s: Settings, steps: Vec<u32>, physical: usize, counts: &mut Counts| -> Result<u64, String> {
+    let burst = |row: u32| vec![row; a as usize];
+    let tick = vec![TICK];
+    let mut run = |s: Settings, steps: &[Vec<u32>], physical: usize| -> Result<(u64, Vec<u32>), String> {
         let mut stream = Stream::new(s, counts)?;
-        for step in steps {
-            let answer = stream.step(step)?;
-            if answer.number != 0 {
-                return Err(format!("a step of the attaining stream was refused: {answer:?}, {s:?}"));
-            }
+        let mut numbers = Vec::new();
+        for &step in steps.iter().flatten() {
+            numbers.push(stream.step(step)?.number);
         }
         stream.end()?;
-        Ok(stream.watcher.tally.opened(physical))
+        Ok((stream.watcher.tally.opened(physical), numbers))
     };
-    let tick = || std::iter::once(TICK);
-    let steps = burst(1).chain(burst(0)).chain(tick()).chain(burst(0)).chain(burst(1)).collect();
-    let home = run(settings(2, 2, 2, a, 3 * a - 1), steps, 1, counts)?;
-    let steps = burst(0).chain(burst(1)).chain(tick()).chain(burst(0)).chain(burst(1)).chain(burst(1)).collect();
-    let slot = run(settings(2, 3, 3, a, 4 * a - 1), steps, 2, counts)?;
-    println!("  A {a:>6}: home {home} of A + 2 = {}, slot {slot} of 2A + 3 = {}", a + 2, 2 * a + 3);
-    if (home, slot) != (u64::from(a) + 2, 2 * u64::from(a) + 3) {
-        return Err(format!("the attaining streams miss the bounds for A = {a}"));
+    // Row 2 sends row 0 home, which is opened for that, then hammered, then left.
+    let steps = [burst(0), burst(1), tick.clone(), burst(2), burst(0)];
+    let (home, home_numbers) = run(settings(3, 2, 2, a, 2 * a), &steps, 0)?;
+    // Slot 0 is opened by row 0 once less than A times, twice when row 2 takes its place, and twice when that row leaves.
+    let almost = vec![0; a as usize - 1];
+    let steps = [burst(0), burst(1), tick.clone(), almost, burst(2), vec![2]];
+    let (slot, slot_numbers) = run(settings(3, 2, 2, a, 2 * a), &steps, 3)?;
+    // Row 0 passes its own slot 0, and takes slot 1; row 2 would pass its own slot 2 and slot 0.
+    let steps = [burst(0), burst(1), tick.clone(), burst(2), tick, burst(0), burst(2)];
+    let (_, mut numbers) = run(settings(4, 3, 2, a, 2 * a), &steps, 0)?;
+    let last = numbers.pop();
+    println!(
+        "  A {a:>6}: home {home} of A + 2 = {}, slot {slot} of A + 3 = {}, 9 with Q = 2 (L / A) - 1",
+        a + 2,
+        a + 3
+    );
+    if [home_numbers, slot_numbers, numbers].iter().flatten().any(|&number| number != 0) {
+        return Err(format!("a step of an attaining stream was refused, for A = {a}"));
+    }
+    if (home, slot, last) != (u64::from(a) + 2, u64::from(a) + 3, Some(9)) {
+        return Err(format!("the attaining streams miss the figures for A = {a}: {home}, {slot}, {last:?}"));
     }
     Ok(())
 }
@@ -168,7 +182,7 @@ pub fn hammer(rng: &mut Rng, a: u32, calls: u64, counts: &mut Counts) -> Result<
     println!(
         "  A {a:>5}: {streams:>5} streams, {epochs:>6} epochs; home {} of {}, slot {} of {}; quarantines at most L / A \
          (equal in {full} epochs); no 9 in {roomy_epochs} epochs with Q >= 2 (L / A), {tight_spent} with less",
-        most.home, a + 2, most.slot, 2 * a + 3,
+        most.home, a + 2, most.slot, a + 3,
     );
     Ok(())
 }

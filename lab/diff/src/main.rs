@@ -1,7 +1,8 @@
-//! Compares the library behind include/aqua.h with an engine written a second time from document 01. The first argument
-//! overrides the seed. Exit status 0 only if everything agrees and every planted fault is noticed.
+//! Compares the library behind include/aqua.h with an engine written a second time from documents 01 and 02. The first
+//! argument overrides the seed. Exit status 0 only if everything agrees and every planted fault is noticed.
 
 mod estimates;
+mod fixed;
 mod garbage;
 mod hammer;
 mod huge;
@@ -9,12 +10,13 @@ mod pair;
 mod sizing;
 mod sound;
 mod tally;
+mod worn;
 
 use model::fault::{Fault, FAULTS};
 use model::memory::Settings;
 use model::rng::Rng;
 use pair::Counts;
-use sound::Seen;
+use sound::{Seen, MANY};
 use std::process::ExitCode;
 use std::time::Instant;
 
@@ -30,22 +32,32 @@ fn sound_histories(rng: &mut Rng, counts: &mut Counts) -> Result<(), String> {
         sound::random(rng, Fault::Nothing, counts, &mut seen)?;
     }
     sound::lengths(rng, Fault::Nothing, counts, &mut seen)?;
+    worn::largest(rng, counts, &mut seen)?;
     // The largest settings of all; few calls, since each compares 537 megabytes.
     let largest = Settings { n: 60_000, q: 5_500, w: 8_192, k: 4_096, a: 2, l: 8_193 };
     sound::history(rng, &largest, 16, Fault::Nothing, counts, &mut seen)?;
     println!(
-        "a. sound histories: {} calls in {} histories, {} epochs ended, {} quarantines, {} rows sent home, {} times \
-         the row's own slot passed, {} accesses refused with 9 and accepted after a tick, store up to {} bytes",
+        "a. sound histories: {} calls in {} histories, {} epochs ended, {} quarantines, {} rows sent home, {} accesses \
+         refused with 9 and accepted after a tick, store up to {} bytes",
         counts.total(),
         seen.histories,
         seen.epochs,
         seen.quarantines,
         seen.sent_home,
-        seen.own_slot_passed,
         seen.retried_after_nine,
         seen.store_most,
     );
-    Ok(())
+    println!(
+        "   slots passed: in {} quarantines, more than {MANY} in {}, up to the last slot left in {}, at most {}; refused \
+         with 9 while slots were left: {}, more than {MANY} of them: {}",
+        seen.past_slots,
+        seen.past_many,
+        seen.into_the_last,
+        seen.most_passed,
+        seen.all_left_passed,
+        seen.many_left_passed,
+    );
+    seen.judge(LEAST_HITS)
 }
 
 fn garbage_memory(rng: &mut Rng, counts: &mut Counts) -> Result<(), String> {
@@ -56,6 +68,7 @@ fn garbage_memory(rng: &mut Rng, counts: &mut Counts) -> Result<(), String> {
         cases += 1;
     }
     println!("b. garbage memory: {} calls on {cases} memories", counts.total() - begun);
+    println!("   reads on tables made for them, as worked out by hand: {}", fixed::scenes(counts)?);
     match huge::refused()? {
         Some(made) => println!("   lengths past 32 bits: {made} calls refused as due"),
         None => println!("   lengths past 32 bits: not tried, the machine gives no address space for them"),
@@ -69,7 +82,7 @@ fn hammering(rng: &mut Rng, counts: &mut Counts) -> Result<(), String> {
     for a in [1, 2, 3, 4, 7, 20, 100] {
         hammer::hammer(rng, a, HAMMER_CALLS, counts)?;
     }
-    println!("   streams that attain both bounds:");
+    println!("   streams that attain the figures:");
     for a in [1, 2, 3, 10, 250, 1000, 65_535] {
         hammer::attained(a, counts)?;
     }

@@ -4,6 +4,7 @@
 use crate::estimates::Estimates;
 use crate::pair::{Counts, Pair};
 use crate::tally::{self, Figures, Tally};
+use crate::worn;
 use model::fault::Fault;
 use model::memory::{Answer, Call, Memory, Settings, NONE};
 use model::rng::Rng;
@@ -15,9 +16,45 @@ pub struct Seen {
     pub epochs: u64,
     pub quarantines: u64,
     pub sent_home: u64,
-    pub own_slot_passed: u64,
+    /// Rows moved past at least one slot, past more than 16 slots, and past others into the last slot left.
+    pub past_slots: u64,
+    pub past_many: u64,
+    pub into_the_last: u64,
+    /// Most slots that one row was moved past.
+    pub most_passed: u32,
+    /// Accesses refused with 9 while slots were left, and while more than 16 were left.
+    pub all_left_passed: u64,
+    pub many_left_passed: u64,
     pub retried_after_nine: u64,
     pub store_most: usize,
+}
+
+/// The library's search for a slot takes another way where this many slots were passed.
+pub const MANY: u32 = 16;
+
+impl Seen {
+    /// How the search for a slot ended: `passed` before the access and after it.
+    fn search(&mut self, q: u32, before: u32, after: u32, number: u32) {
+        if number == 9 {
+            self.all_left_passed += u64::from(before < q);
+            self.many_left_passed += u64::from(before + MANY < q);
+        } else {
+            let slots = after - before - 1;
+            self.past_slots += u64::from(slots > 0);
+            self.past_many += u64::from(slots > MANY);
+            self.into_the_last += u64::from(slots > 0 && after == q);
+            self.most_passed = self.most_passed.max(slots);
+        }
+    }
+
+    /// Each way in which the search can end was met at least `least` times.
+    pub fn judge(&self, least: u64) -> Result<(), String> {
+        let met = [self.past_slots, self.past_many, self.into_the_last, self.all_left_passed, self.many_left_passed];
+        if met.iter().any(|&times| times < least) {
+            return Err(format!("ways in which the search for a slot ends were met only {met:?} times"));
+        }
+        Ok(())
+    }
 }
 
 /// The watcher: it sees calls and answers only, and `spill`.
@@ -174,7 +211,7 @@ impl Driver {
 }
 
 /// A history under way: every step is compared and watched.
-struct History<'a> {
+pub struct History<'a> {
     s: Settings,
     pair: Pair,
     watcher: Watcher,
@@ -183,10 +220,40 @@ struct History<'a> {
     seen: &'a mut Seen,
 }
 
-impl History<'_> {
-    fn step(&mut self, call: &Call) -> Result<Answer, String> {
+impl<'a> History<'a> {
+    /// A history of the given settings, set up.
+    pub fn begin(
+        rng: &mut Rng, s: &Settings, fault: Fault, counts: &'a mut Counts, seen: &'a mut Seen,
+    ) -> Result<History<'a>, String> {
+        let mut memory = Memory::raw(s, 0);
+        if memory.store.len() <= 1 << 22 {
+            memory = Memory::raw(s, rng.word() as u8);
+            memory.store = rng.bytes(memory.store.len());
+        }
+        seen.histories += 1;
+        seen.store_most = seen.store_most.max(memory.store.len());
+        let watcher = Watcher::new(s, &memory.store);
+        let pair = Pair::new(memory, fault, false);
+        let mut history = History { s: *s, pair, watcher, recent: Vec::new(), counts, seen };
+        history.step(&Call::SetUp)?;
+        Ok(history)
+    }
+
+    /// The lent memory as the last call left it.
+    pub fn memory(&self) -> &Memory {
+        &self.pair.library
+    }
+
+    pub fn read(&mut self, row: u32) -> Result<Answer, String> {
+        self.step(&Call::Read { row, length: self.s.w as usize })
+    }
+
+    pub fn step(&mut self, call: &Call) -> Result<Answer, String> {
         let passed = self.pair.library.control.passed;
         let answer = self.pair.call(&self.s, call, self.counts)?;
+        if answer.slot != NONE || answer.number == 9 {
+            self.seen.search(self.s.q, passed, self.pair.library.control.passed, answer.number);
+        }
         let ended = self.watcher.see(&self.s, call, &answer, &self.pair)?;
         self.seen.epochs += u64::from(ended.is_some());
         match call {
@@ -196,7 +263,6 @@ impl History<'_> {
             }
             Call::Read { row, .. } | Call::Write { row, .. } if answer.slot != NONE => {
                 self.seen.quarantines += 1;
-                self.seen.own_slot_passed += u64::from(self.pair.library.control.passed == passed + 2);
                 self.recent.insert(0, *row);
                 if answer.row != NONE {
                     self.seen.sent_home += 1;
@@ -208,23 +274,18 @@ impl History<'_> {
         }
         Ok(answer)
     }
+
+    /// Judges the figures of the epoch that the list ends in.
+    pub fn end(self) -> Result<(), String> {
+        tally::judge(&self.s, &self.watcher.tally.figures())
+    }
 }
 
 /// One history of the given number of calls.
 pub fn history(
     rng: &mut Rng, s: &Settings, calls: u64, fault: Fault, counts: &mut Counts, seen: &mut Seen,
 ) -> Result<(), String> {
-    let mut memory = Memory::raw(s, 0);
-    if memory.store.len() <= 1 << 22 {
-        memory = Memory::raw(s, rng.word() as u8);
-        memory.store = rng.bytes(memory.store.len());
-    }
-    seen.histories += 1;
-    seen.store_most = seen.store_most.max(memory.store.len());
-    let watcher = Watcher::new(s, &memory.store);
-    let pair = Pair::new(memory, fault, false);
-    let mut history = History { s: *s, pair, watcher, recent: Vec::new(), counts, seen };
-    history.step(&Call::SetUp)?;
+    let mut history = History::begin(rng, s, fault, counts, seen)?;
     let mut driver = Driver { pattern: Pattern::Anywhere, left: 0, step: 0 };
     for _ in 1..calls {
         let call = driver.call(rng, s, &history.pair.library, &history.recent);
@@ -242,11 +303,14 @@ pub fn history(
             _ => {}
         }
     }
-    tally::judge(s, &history.watcher.tally.figures())
+    history.end()
 }
 
 /// A history of random settings, as long as its memory is small.
 pub fn random(rng: &mut Rng, fault: Fault, counts: &mut Counts, seen: &mut Seen) -> Result<(), String> {
+    if rng.once_in(3) {
+        return worn::random(rng, fault, counts, seen);
+    }
     let cap = if rng.once_in(40) { 1 << 21 } else { 1 << 16 };
     let s = settings(rng, cap);
     let cost = Memory::raw(&s, 0).bytes() as u64 + 16 * u64::from(s.k);

@@ -106,12 +106,12 @@ impl Tally {
     }
 }
 
-/// Judges an epoch's figures by demand 3's bounds.
+/// Judges an epoch's figures by demand 3's bounds; a slot's is that of document 02, Ask 4.
 pub fn judge(s: &Settings, f: &Figures) -> Result<(), String> {
     let a = u64::from(s.a);
     let most = u64::from(s.l / s.a);
     let holds =
-        f.home <= a + 2 && f.slot <= 2 * a + 3 && f.quarantines <= most && (u64::from(s.q) < 2 * most || f.spent == 0);
+        f.home <= a + 2 && f.slot <= a + 3 && f.quarantines <= most && (u64::from(s.q) < 2 * most || f.spent == 0);
     if holds {
         Ok(())
     } else {

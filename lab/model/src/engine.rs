@@ -1,9 +1,10 @@
-//! The engine of document 01, written a second time and from that document alone. An access is first planned without a
-//! change, so a refusal cannot leave a trace, and then carried out. It answers for any settings and any memory.
-//! One deliberate error can be planted, to show that the comparison would find it.
+//! The engine of document 01, with Asks 2 and 4 of document 02, written a second time and from these documents alone. An
+//! access is first planned without a change, so a refusal cannot leave a trace, and then carried out. It answers for any
+//! settings and any memory. One deliberate error can be planted, to show that the comparison would find it.
 
 use crate::fault::Fault;
 use crate::memory::{Control, Memory, Settings};
+use crate::tracker::{step_two, Search, Tracked};
 
 const EMPTY: u16 = 65535;
 
@@ -46,22 +47,6 @@ pub struct Served {
     pub sent_home: Option<usize>,
 }
 
-/// What the tracker makes of an activation.
-enum Sight {
-    Known { entry: usize, estimate: u32 },
-    Taken { entry: usize, estimate: u32 },
-    Unseen,
-}
-
-impl Sight {
-    fn estimate(&self) -> Option<u32> {
-        match self {
-            Sight::Known { estimate, .. } | Sight::Taken { estimate, .. } => Some(*estimate),
-            Sight::Unseen => None,
-        }
-    }
-}
-
 /// A quarantine that is due.
 struct Journey {
     to: usize,
@@ -72,7 +57,7 @@ struct Journey {
 struct Plan {
     place: usize,
     left_slot: Option<usize>,
-    sight: Sight,
+    tracked: Tracked,
     journey: Option<Journey>,
 }
 
@@ -141,37 +126,13 @@ impl Model {
         }
     }
 
-    fn sight(&self, name: usize) -> Sight {
-        let Memory { rows, counts, control, .. } = &self.memory;
-        let mut names = rows.iter().map(|&r| usize::from(r));
-        let known = if self.planted(Fault::HighestNameRules) {
-            names.rposition(|r| r == name)
-        } else {
-            names.position(|r| r == name)
-        };
-        if let Some(entry) = known {
-            return Sight::Known { entry, estimate: counts[entry].wrapping_add(1) };
-        }
-        let mut spare = counts.iter();
-        let spare = if self.planted(Fault::HighestSpareTaken) {
-            spare.rposition(|&c| c == control.spill)
-        } else {
-            spare.position(|&c| c == control.spill)
-        };
-        let first = if self.planted(Fault::EntryStartsAtOne) { 1 } else { control.spill + 1 };
-        spare.map_or(Sight::Unseen, |entry| Sight::Taken { entry, estimate: first })
-    }
-
-    fn judge_journey(&self, s: &Settings, row: usize, sits_in: Option<usize>) -> Result<Journey, Refusal> {
-        let q = s.q as usize;
-        let head = self.memory.control.head as usize;
-        let (to, rise) = if sits_in == Some(head) && !self.planted(Fault::OwnSlotNotPassed) {
-            ((head + 1) % q, 2)
-        } else {
-            (head, 1)
-        };
-        let rise = if self.planted(Fault::PassedRisesByOne) { 1 } else { rise };
-        let spent = self.memory.control.passed + rise > s.q;
+    /// "If that would exceed Q, the access gets 9 at 9's place", which is before the destination's 7. Where every slot is
+    /// passed there is no destination, and the slots passed plus one are Q + 1.
+    fn judge_journey(&self, s: &Settings, row: usize, own: Option<usize>, after: &Tracked) -> Result<Journey, Refusal> {
+        let search = Search { settings: s, before: &self.memory, after, own, fault: self.fault };
+        let (to, rise) = search.destination().ok_or(Refusal::Spent)?;
+        let most = if self.planted(Fault::SpentOneSlotEarly) { s.q - 1 } else { s.q };
+        let spent = self.memory.control.passed + rise > most;
         if spent && !self.planted(Fault::DestinationBeforeSpent) {
             return Err(Refusal::Spent);
         }
@@ -210,12 +171,13 @@ impl Model {
             return Err(Refusal::Epoch);
         }
         let place = left_slot.map_or(row, |slot| s.n as usize + slot);
-        let sight = self.sight(if self.planted(Fault::TracksVisibleRow) { row } else { place });
-        let due = sight.estimate().is_some_and(|estimate| {
+        let name = if self.planted(Fault::TracksVisibleRow) { row } else { place };
+        let tracked = step_two(&self.memory, name, self.fault);
+        let due = tracked.estimate.is_some_and(|estimate| {
             estimate % s.a == 0 || (self.planted(Fault::QuarantineFromThresholdOn) && estimate >= s.a)
         });
-        let journey = if due { Some(self.judge_journey(s, row, left_slot)?) } else { None };
-        Ok(Plan { place, left_slot, sight, journey })
+        let journey = if due { Some(self.judge_journey(s, row, left_slot, &tracked)?) } else { None };
+        Ok(Plan { place, left_slot, tracked, journey })
     }
 
     fn line(&mut self, s: &Settings, physical: usize) -> &mut [u8] {
@@ -230,17 +192,11 @@ impl Model {
     }
 
     fn carry_out(&mut self, s: &Settings, row: usize, plan: Plan, touch: impl FnOnce(&mut [u8])) -> Served {
-        let Plan { place, left_slot, sight, journey } = plan;
-        let seen_as = if self.planted(Fault::TracksVisibleRow) { row } else { place };
-        let estimate = sight.estimate();
-        match sight {
-            Sight::Known { entry, estimate } => self.memory.counts[entry] = estimate,
-            Sight::Taken { entry, estimate } => {
-                self.memory.rows[entry] = seen_as as u16;
-                self.memory.counts[entry] = estimate;
-            }
-            Sight::Unseen => self.memory.control.spill += 1,
-        }
+        let Plan { place, left_slot, tracked, journey } = plan;
+        let Tracked { rows, counts, spill, estimate } = tracked;
+        self.memory.rows = rows;
+        self.memory.counts = counts;
+        self.memory.control.spill = spill;
         self.memory.control.acts += 1;
         let before = self.line(s, place).to_vec();
         touch(self.line(s, place));
@@ -286,7 +242,11 @@ impl Model {
     /// The estimate in the answer of a refused access: none.
     pub fn refused_estimate(&self, row: u32, refusal: Refusal) -> Option<u32> {
         let late = matches!(refusal, Refusal::Epoch | Refusal::Spent);
-        (late && self.planted(Fault::RefusalHasEstimate)).then(|| self.sight(row as usize).estimate())?
+        if late && self.planted(Fault::RefusalHasEstimate) {
+            step_two(&self.memory, row as usize, self.fault).estimate
+        } else {
+            None
+        }
     }
 
     fn access(&mut self, s: &Settings, row: u32, fits: bool, touch: impl FnOnce(&mut [u8])) -> Result<Served, Refusal> {
@@ -333,7 +293,7 @@ impl Model {
         let fits = end.is_some_and(|end| end as u64 <= u64::from(s.w));
         if bytes.is_empty() && self.planted(Fault::EmptyWriteIsNothing) {
             let plan = self.plan(s, row, fits)?;
-            return Ok(Served { place: plan.place, estimate: plan.sight.estimate(), moved_to: None, sent_home: None });
+            return Ok(Served { place: plan.place, estimate: plan.tracked.estimate, moved_to: None, sent_home: None });
         }
         self.access(s, row, fits, |line| line.iter_mut().skip(column).zip(bytes).for_each(|(to, from)| *to = *from))
     }

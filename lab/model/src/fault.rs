@@ -11,8 +11,15 @@ pub enum Fault {
     TickResetsHead,
     TickKeepsSpill,
     TickKeepsPassed,
-    OwnSlotNotPassed,
+    /// Slots are judged wrongly.
+    Wear(Wear),
+    /// The first sixteen slots from the head on are judged rightly, those after them wrongly.
+    LateWear(Wear),
+    /// The head does not go round from the last slot to the first.
+    SearchEndsAtLastSlot,
+    NoDestinationTakesHead,
     PassedRisesByOne,
+    SpentOneSlotEarly,
     HighestNameRules,
     HighestSpareTaken,
     QuarantineFromThresholdOn,
@@ -40,7 +47,19 @@ pub enum Fault {
     LongestRowCutShort,
 }
 
-pub const FAULTS: [Fault; 34] = [
+/// Errors in which slots the head passes. That the own slot is passed follows from its count; so leaving out the clause
+/// alone is no error, and the own slot is here taken whatever its count.
+#[derive(Clone, Copy, PartialEq, Eq, Debug)]
+pub enum Wear {
+    NotLookedAt,
+    OwnSlotTaken,
+    AboveThreshold,
+    BySlotNumber,
+    BeforeStepTwo,
+    ByHighestEntry,
+}
+
+pub const FAULTS: [Fault; 48] = [
     Fault::EntryStartsAtOne,
     Fault::OldReverseKept,
     Fault::SentHomeForwardKept,
@@ -48,8 +67,22 @@ pub const FAULTS: [Fault; 34] = [
     Fault::TickResetsHead,
     Fault::TickKeepsSpill,
     Fault::TickKeepsPassed,
-    Fault::OwnSlotNotPassed,
+    Fault::Wear(Wear::NotLookedAt),
+    Fault::Wear(Wear::OwnSlotTaken),
+    Fault::Wear(Wear::AboveThreshold),
+    Fault::Wear(Wear::BySlotNumber),
+    Fault::Wear(Wear::BeforeStepTwo),
+    Fault::Wear(Wear::ByHighestEntry),
+    Fault::LateWear(Wear::NotLookedAt),
+    Fault::LateWear(Wear::OwnSlotTaken),
+    Fault::LateWear(Wear::AboveThreshold),
+    Fault::LateWear(Wear::BySlotNumber),
+    Fault::LateWear(Wear::BeforeStepTwo),
+    Fault::LateWear(Wear::ByHighestEntry),
+    Fault::SearchEndsAtLastSlot,
+    Fault::NoDestinationTakesHead,
     Fault::PassedRisesByOne,
+    Fault::SpentOneSlotEarly,
     Fault::HighestNameRules,
     Fault::HighestSpareTaken,
     Fault::QuarantineFromThresholdOn,

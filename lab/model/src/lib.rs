@@ -1,7 +1,8 @@
-//! The engine of document 01, written a second time and from that document alone, and what the comparisons share: lent
-//! memory as plain data, the faults that can be planted, and pseudo-random numbers.
+//! The engine of documents 01 and 02, written a second time and from these documents alone, and what the comparisons share:
+//! lent memory as plain data, the faults that can be planted, and pseudo-random numbers.
 
 pub mod engine;
 pub mod fault;
 pub mod memory;
 pub mod rng;
+mod tracker;

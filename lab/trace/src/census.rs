@@ -53,10 +53,12 @@ impl Census {
         self.steps.reads.iter_mut().zip(seen.reads).for_each(|(sum, count)| *sum += count);
         self.steps.ticks += seen.ticks;
         self.steps.moved += seen.moved;
+        self.steps.past_slots += seen.past_slots;
+        self.steps.past_many += seen.past_many;
         self.steps.sent_home += seen.sent_home;
     }
 
-    fn lines(&self) -> [(&'static str, u64, u64); 19] {
+    fn lines(&self) -> [(&'static str, u64, u64); 21] {
         let reads = self.steps.reads;
         [
             ("form refused", self.form, 1_000),
@@ -72,6 +74,8 @@ impl Census {
             ("65,537 bytes", self.byte_too_many, 10),
             ("reads accepted", reads[0], 50_000),
             ("   rows moved", self.steps.moved, 5_000),
+            ("   past other slots", self.steps.past_slots, 1_000),
+            ("   past more than 16 slots", self.steps.past_many, 30),
             ("   rows sent home", self.steps.sent_home, 1_000),
             ("reads refused with 5", reads[5], 1_000),
             ("   rows from 65,534 on", self.large_rows, 1_000),

@@ -1,6 +1,6 @@
 //! The errors that can be planted in the second interpreter, to show that the files find them.
 
-use model::fault::Fault;
+use model::fault::{Fault, Wear};
 
 #[derive(Clone, Copy, PartialEq, Eq, Debug)]
 pub enum Flaw {
@@ -64,9 +64,10 @@ impl Flaw {
     }
 }
 
-/// Which entry of those with count `spill` is taken shows in no answer, and nothing here depends on bytes; so only
-/// those errors of the engine are listed that an answer can show.
-pub const FLAWS: [Flaw; 56] = [
+/// Which entry of those with count `spill` is taken shows in no answer, and nothing here depends on bytes. A trace begins
+/// with set-up; so no row is named twice in the tracker, and no estimate is above A. Only those errors of the engine are
+/// listed that an answer can show.
+pub const FLAWS: [Flaw; 63] = [
     Flaw::NumbersWrapAt32Bits,
     Flaw::NumbersWrapAt64Bits,
     Flaw::LargeNumbersCut,
@@ -119,8 +120,15 @@ pub const FLAWS: [Flaw; 56] = [
     Flaw::Engine(Fault::TickResetsHead),
     Flaw::Engine(Fault::TickKeepsSpill),
     Flaw::Engine(Fault::TickKeepsPassed),
-    Flaw::Engine(Fault::OwnSlotNotPassed),
+    Flaw::Engine(Fault::Wear(Wear::NotLookedAt)),
+    Flaw::Engine(Fault::Wear(Wear::OwnSlotTaken)),
+    Flaw::Engine(Fault::Wear(Wear::AboveThreshold)),
+    Flaw::Engine(Fault::Wear(Wear::BySlotNumber)),
+    Flaw::Engine(Fault::LateWear(Wear::NotLookedAt)),
+    Flaw::Engine(Fault::LateWear(Wear::OwnSlotTaken)),
+    Flaw::Engine(Fault::SearchEndsAtLastSlot),
+    Flaw::Engine(Fault::NoDestinationTakesHead),
     Flaw::Engine(Fault::PassedRisesByOne),
-    Flaw::Engine(Fault::QuarantineFromThresholdOn),
+    Flaw::Engine(Fault::SpentOneSlotEarly),
     Flaw::Engine(Fault::RefusedAccessCounts),
 ];

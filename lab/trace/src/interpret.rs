@@ -1,5 +1,5 @@
 //! The trace program of document 01, with the empty trace of document 02, written a second time and from these documents
-//! alone: bytes in, bytes out. One deliberate error can be planted.
+//! alone, over the second engine: bytes in, bytes out. One deliberate error can be planted.
 
 use crate::flaw::Flaw;
 use model::engine::{Model, Refusal, Served};
@@ -31,6 +31,9 @@ pub struct Seen {
     pub reads: [u64; 10],
     pub ticks: u64,
     pub moved: u64,
+    /// Rows moved past slots that were not taken, and past more than 16 of them.
+    pub past_slots: u64,
+    pub past_many: u64,
     pub sent_home: u64,
 }
 
@@ -223,7 +226,11 @@ fn run(s: &Settings, steps: &[u32], flaw: Flaw) -> Printed {
             continue;
         }
         let row = if flaw == Flaw::RowsCutTo16Bits { step % (1 << 16) } else { step };
+        let passed = engine.memory.control.passed;
         let answer = engine.read(s, row, &mut buffer);
+        let rise = engine.memory.control.passed.saturating_sub(passed);
+        seen.past_slots += u64::from(rise > 1);
+        seen.past_many += u64::from(rise > 17);
         let number = answer.as_ref().err().map_or(0, |refusal| refusal.number());
         seen.reads[number as usize % 10] += 1;
         seen.moved += u64::from(answer.as_ref().is_ok_and(|served| served.moved_to.is_some()));

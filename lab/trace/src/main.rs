@@ -12,6 +12,7 @@ mod malformed;
 mod program;
 mod sound;
 mod vectors;
+mod worn;
 
 use census::Census;
 use file::File;
@@ -24,6 +25,7 @@ use std::process::ExitCode;
 use std::time::Instant;
 
 const WELL_FORMED: usize = 3_000;
+const WORN: usize = 150;
 const MALFORMED: usize = 2_600;
 /// Files with more steps than this are tried on a planted fault only while nothing shorter shows it.
 const LONG: u64 = 1_000;
@@ -138,6 +140,7 @@ fn run(program: &Program, seed: u64) -> Result<(), String> {
     let time = |what: &str| eprintln!("   ({what}: {:.1} s since the start)", begun.elapsed().as_secs_f64());
     compare_vectors(program)?;
     let mut files = sound::files(rng, WELL_FORMED);
+    files.extend(worn::files(rng, WORN));
     files.extend(hostile::files(rng));
     files.extend(malformed::files(rng, MALFORMED));
     let expect = |file: File| {

@@ -7,12 +7,13 @@ pub struct Vector {
     pub printed: String,
 }
 
-/// Document 01's session, from the repository's examples: the trace file and the lines printed for it.
+/// Document 01's session, from the repository's examples: the trace file and the lines printed for it, some of them by
+/// document 02's Ask 4.
 const SESSION: (&str, &str) =
     (include_str!("../../../examples/session.trace"), include_str!("../../../examples/session.lines"));
 
 /// Steps and settings, worked out line by line.
-const DERIVED: [(&str, &str); 18] = [
+const DERIVED: [(&str, &str); 21] = [
     // Document 01's edges of the settings; 1 comes before 2.
     ("6 4 2 1 2 2 5 0", ""),
     ("6 4 2 1 2 2 6 0", "0 2 - - -\n"),
@@ -34,6 +35,22 @@ const DERIVED: [(&str, &str); 18] = [
     ),
     // Both slots gone by: 9, for every row, until a tick.
     ("6 2 2 1 3 1 3 6 0 0 0 1 65535 1", "1 0 0 0 -\n2 0 2 1 -\n3 9 - - -\n4 9 - - -\n5 0 - - -\n6 0 1 0 -\n"),
+    // Row 1 leaves slot 1 worn; row 0, sent home for it, passes that slot and takes the last. No slot is left for row 2.
+    (
+        "6 3 3 1 3 1 3 9 0 1 2 65535 1 0 2 65535 2",
+        "1 0 0 0 -\n2 0 1 1 -\n3 0 2 2 -\n4 0 - - -\n5 0 4 0 0\n6 0 0 2 2\n7 9 - - -\n8 0 - - -\n9 0 2 0 1\n",
+    ),
+    // Slot 1 is read A times and passed; slot 2, read A - 1 times, is not.
+    (
+        "6 4 3 1 3 2 7 12 0 0 1 1 2 2 65535 1 1 2 3 3",
+        "1 0 0 - -\n2 0 0 0 -\n3 0 1 - -\n4 0 1 1 -\n5 0 2 - -\n6 0 2 2 -\n7 0 - - -\n8 0 5 - -\n9 0 5 0 0\n\
+         10 0 6 - -\n11 0 3 - -\n12 0 3 2 2\n",
+    ),
+    // Row 0 passes its own slot 0 and takes slot 1; row 2 would pass its own slot 2 and slot 0, which is worn: 9.
+    (
+        "6 4 3 1 2 1 2 8 0 1 65535 2 65535 0 2 3",
+        "1 0 0 0 -\n2 0 1 1 -\n3 0 - - -\n4 0 2 2 -\n5 0 - - -\n6 0 4 1 1\n7 9 - - -\n8 0 3 2 2\n",
+    ),
     // One entry: row 1 raises spill, and row 2 then takes the entry with spill + 1 = A.
     ("6 3 2 1 1 2 3 4 0 1 2 0", "1 0 0 - -\n2 0 1 - -\n3 0 2 0 -\n4 8 - - -\n"),
     // Rows that do not exist, whatever the epoch.
@@ -106,6 +123,23 @@ const NO_TRACE: [&str; 43] = [
     "6 3 2 8192 1 1 1 0",
 ];
 
+/// A = 1 and 40 slots, which rows 0 to 39 fill. Rows 20 to 38 leave their slots worn and take slots 0 to 18, and the rows in
+/// these go home. Row 0 takes slot 19; row 1 passes slots 20 to 38 and takes the last; for row 2 no slot is left.
+fn past_nineteen() -> Vector {
+    let filled = (0..40).map(|row| (row, format!("0 {row} {row} -")));
+    let tick = (65_535, "0 - - -".to_string());
+    let worn = (0..19).map(|slot| (slot + 20, format!("0 {} {slot} {slot}", 40 + slot + 20)));
+    let last = [(0, "0 0 19 19"), (1, "0 1 39 39"), (2, "9 - - -")].map(|(row, line)| (row, line.to_string()));
+    let all: Vec<(u32, String)> = filled.chain([tick]).chain(worn).chain(last).collect();
+    let mut file = format!("6 40 40 1 40 1 40 {}", all.len());
+    let mut printed = String::new();
+    for (at, (step, line)) in (1..).zip(&all) {
+        file += &format!(" {step}");
+        printed += &format!("{at} {line}\n");
+    }
+    Vector { file: file.into_bytes(), printed }
+}
+
 pub fn all() -> Vec<Vector> {
     let pair =
         |&(file, printed): &(&str, &str)| Vector { file: file.as_bytes().to_vec(), printed: printed.to_string() };
@@ -132,6 +166,7 @@ pub fn all() -> Vec<Vector> {
     all.push(Vector { file: format!("{zeros}{session}").into_bytes(), printed: SESSION.1.to_string() });
     let before_last = session.trim_end_matches(|c: char| c.is_ascii_digit());
     all.push(Vector { file: format!("{before_last}1{zeros}").into_bytes(), printed: REFUSED.to_string() });
+    all.push(past_nineteen());
     // The most steps: row 3 and ticks in turn. One step more is refused.
     let pairs = |count: usize| "3 65535 ".repeat(count / 2) + if count.is_multiple_of(2) { "" } else { "3" };
     let lines = |count: usize| -> String {

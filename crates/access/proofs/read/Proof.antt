@@ -47,41 +47,41 @@ module _ (p : tie.Else2) where
 
 -- ---- once it is decided
 module _ (q : tie.After-decide) where
-  seen : let n = q .before .before .before .before .before .before .before .before .before in Found (s n) (σ n) (r n) (off n) (n .before .before .entry-of .result) (q .before .before .before .before .before .before .before .place .result) (q .before .before .before .before .choose .result) (q .decide .result)
+  seen : let n = q .before .before .before .before .before .before .before .before .before .before in Found (s n) (σ n) (r n) (off n) (n .before .before .entry-of .result) (q .before .before .before .before .before .before .before .before .place .result) (q .before .before .before .before .before .choose .result) (q .decide .result)
   seen =
-      let p = q .before .before .before .before .before .before .before .before in
-      found (early p) (p .before .before .before .entry-of .ensures) (q .before .before .before .before .before .before .before .place .ensures) (q .before .before .before .before .choose .ensures) (q .before .before .before .estimate .ensures) (q .decide .ensures)
+      let p = q .before .before .before .before .before .before .before .before .before in
+      found (early p) (p .before .before .before .entry-of .ensures) (q .before .before .before .before .before .before .before .before .place .ensures) (q .before .before .before .before .before .choose .ensures) (q .decide .ensures)
 
   -- what `read_row` asks, and what the call is with the bytes that it fills in
-  ready : let n = q .before .before .before .before .before .before .before .before .before in let a = n .before .before .before .before .before .before .before .before .before .before .before .before .before .before .before .before .before .before .args in accessNumber (s n) (σ n) (r n) (off n) ≡ 0
-      → (length (a .buffer .now) ≡ s n .w) × (q .before .before .before .before .before .before .before .place .result .0 * s n .w + s n .w ≤ length (a .store .now))
+  ready : let n = q .before .before .before .before .before .before .before .before .before .before in let a = n .before .before .before .before .before .before .before .before .before .before .before .before .before .before .before .before .before .before .args in accessNumber (s n) (σ n) (r n) (off n) ≡ 0
+      → (length (a .buffer .now) ≡ s n .w) × (q .before .before .before .before .before .before .before .before .place .result .0 * s n .w + s n .w ≤ length (a .store .now))
   ready z =
-      let n = q .before .before .before .before .before .before .before .before .before in
+      let n = q .before .before .before .before .before .before .before .before .before .before in
       (buffer-long (s n) (σ n) (r n) (off n) (n .before .before .before .before .before .before .before .before .before .before .before .before .before .before .before .before .before .before .args .buffer .now) (n .before .before .before .before .read-off .ensures) seen z, place-inside seen z)
 
-  whole : let n = q .before .before .before .before .before .before .before .before .before in let a = n .before .before .before .before .before .before .before .before .before .before .before .before .before .before .before .before .before .before .args in (filled : List ℕ) → filled ≡ rowBytes (s n .w) (a .store .now) (q .before .before .before .before .before .before .before .place .result .0)
+  whole : let n = q .before .before .before .before .before .before .before .before .before .before in let a = n .before .before .before .before .before .before .before .before .before .before .before .before .before .before .before .before .before .before .args in (filled : List ℕ) → filled ≡ rowBytes (s n .w) (a .store .now) (q .before .before .before .before .before .before .before .before .place .result .0)
       → accessed (s n) (σ n) (r n) (accessNumber (s n) (σ n) (r n) (off n)) (a .store .now) filled (a .buffer .now) ≡ read (s n) (σ n) (r n) (a .buffer .now)
   whole filled e =
-      let n = q .before .before .before .before .before .before .before .before .before in
+      let n = q .before .before .before .before .before .before .before .before .before .before in
       let b = n .before .before .before .before .before .before .before .before .before .before .before .before .before .before .before .before .before .before .args .buffer .now in
       let o = n .before .before .before .before .read-off .ensures in
       read-is (s n) (σ n) (r n) (off n) b o (filled-is (s n) (σ n) (r n) (off n) b o seen e)
 
 -- ---- that the row stays
 module _ (k : tie.After-enum-told) where
-  stays : let n = k .before .before .before .before .before .before .before .before .before .before .before in Stay ≡ judgementOf (s n) (σ n) (r n) (off n)
+  stays : let n = k .before .before .before .before .before .before .before .before .before .before .before .before in Stay ≡ judgementOf (s n) (σ n) (r n) (off n)
   stays = sym (k .enum-told .given .1) ∙ seen (k .before .before) .decided
 
-  stays-0 : let n = k .before .before .before .before .before .before .before .before .before .before .before in accessNumber (s n) (σ n) (r n) (off n) ≡ 0
-  stays-0 = let n = k .before .before .before .before .before .before .before .before .before .before .before in stay-0 (s n) (σ n) (r n) (off n) stays
+  stays-0 : let n = k .before .before .before .before .before .before .before .before .before .before .before .before in accessNumber (s n) (σ n) (r n) (off n) ≡ 0
+  stays-0 = let n = k .before .before .before .before .before .before .before .before .before .before .before .before in stay-0 (s n) (σ n) (r n) (off n) stays
 
 -- ---- that it is quarantined
 module _ (k : tie.After-known-told2) where
-  goes : let n = k .before .before .before .before .before .before .before .before .before .before .before .before in let g = k .before .verdict2 .given .0 in Go (g .0) (g .1 .0) (g .1 .1 .0) ≡ judgementOf (s n) (σ n) (r n) (off n)
+  goes : let n = k .before .before .before .before .before .before .before .before .before .before .before .before .before in let g = k .before .verdict2 .given .0 in Go (g .0) (g .1 .0) (g .1 .1 .0) ≡ judgementOf (s n) (σ n) (r n) (off n)
   goes = sym (k .before .verdict2 .given .1) ∙ seen (k .before .before .before) .decided
 
-  goes-0 : let n = k .before .before .before .before .before .before .before .before .before .before .before .before in accessNumber (s n) (σ n) (r n) (off n) ≡ 0
-  goes-0 = let n = k .before .before .before .before .before .before .before .before .before .before .before .before in go-0 (s n) (σ n) (r n) (off n) goes
+  goes-0 : let n = k .before .before .before .before .before .before .before .before .before .before .before .before .before in accessNumber (s n) (σ n) (r n) (off n) ≡ 0
+  goes-0 = let n = k .before .before .before .before .before .before .before .before .before .before .before .before .before in go-0 (s n) (σ n) (r n) (off n) goes
 
 tick-number-requires : tie.Need-tick-number-requires
 tick-number-requires c κs = search needs
@@ -148,8 +148,8 @@ returns-2 c =
     (c .refused2 .ensures) (refused-early (s n) (σ n) (r n) (off n) _ (number-is n) (c .before .if2 .taken))
     ∙ read-is (s n) (σ n) (r n) (off n) (n .before .before .before .before .before .before .before .before .before .before .before .before .before .before .before .before .before .before .args .buffer .now) (n .before .before .before .before .read-off .ensures) refl
 
-cast-t39 : tie.Need-cast-t39
-cast-t39 c = omega (arith, row-small (early c))
+cast-t38 : tie.Need-cast-t38
+cast-t38 c = omega (arith, row-small (early c))
 
 place-requires : tie.Need-place-requires
 place-requires c κs = search needs
@@ -159,11 +159,10 @@ choose-requires c κs =
     let p = c .before .before .before in
     choosable (early p) (p .before .before .before .entry-of .ensures) (c .before .before .place .ensures)
 
-estimate-requires : tie.Need-estimate-requires
-estimate-requires c κs = search needs
-
 decide-requires : tie.Need-decide-requires
-decide-requires c κs = decidable (early (c .before .before .before .before .before .before .before))
+decide-requires c κs =
+    let p = c .before .before .before .before .before .before .before .before in
+    decidable (early p) (p .before .before .before .entry-of .ensures) (c .before .before .before .before .before .before .before .place .ensures) (c .before .before .before .before .choose .ensures)
 
 enum-known-verdict : tie.Need-enum-known-verdict
 enum-known-verdict c = search needs
@@ -198,14 +197,14 @@ read-row-requires-2 c κs =
     let k = c .before .before .before in
     ready (k .before .before .before) (goes-0 k)
 
-cast-t66 : tie.Need-cast-t66
-cast-t66 c = omega (arith, row-small (early (c .before .before .before .before .before .before .before .before .before .before .before .before .before .before .before .before .before)))
+cast-t69 : tie.Need-cast-t69
+cast-t69 c = omega (arith, row-small (early (c .before .before .before .before .before .before .before .before .before .before .before .before .before .before .before .before .before .before)))
 
 go-requires : tie.Need-go-requires
 go-requires c κs =
     let k = c .before .before .before .before .before .before .before .before .before .before .before in
     let q = k .before .before .before in
-    let n = q .before .before .before .before .before .before .before .before .before in
+    let n = q .before .before .before .before .before .before .before .before .before .before in
     (countable (seen q) (goes-0 k), movable (seen q) (goes-0 k) (goes k) (σ n .store) refl)
 
 same-length-11 : tie.Need-same-length-11
@@ -226,7 +225,7 @@ same-length-15 c = refl
 returns-3 : tie.Need-returns-3
 returns-3 c =
     let q = c .before .before .before .before in
-    let n = q .before .before .before .before .before .before .before .before .before in
+    let n = q .before .before .before .before .before .before .before .before .before .before in
     refused-is (s n) (σ n) (r n) (off n) (σ n .store) (rowBytes (s n .w) (σ n .store) (place (s n) (σ n) (r n))) (n .before .before .before .before .before .before .before .before .before .before .before .before .before .before .before .before .before .before .args .buffer .now)
     (c .refused3 .ensures) (sym (c .before .before .verdict .given .1) ∙ seen q .decided)
     ∙ read-is (s n) (σ n) (r n) (off n) (n .before .before .before .before .before .before .before .before .before .before .before .before .before .before .before .before .before .before .args .buffer .now) (n .before .before .before .before .read-off .ensures) refl
@@ -253,7 +252,7 @@ returns-4 : tie.Need-returns-4
 returns-4 c =
     let k = c .before .before .before .before .before .before .before .before .before .before .before .before .before in
     let q = k .before .before in
-    let n = q .before .before .before .before .before .before .before .before .before in
+    let n = q .before .before .before .before .before .before .before .before .before .before in
     let w = c .before .before .before .before .before .before .before .before .before .read-row in
     let t = c .before .before .before .before .stay .ensures in
     stay-is (s n) (σ n) (r n) (off n) (σ n .store) _ (n .before .before .before .before .before .before .before .before .before .before .before .before .before .before .before .before .before .before .args .buffer .now) (seen q) (stays k) (t .0) (t .1) (t .2) ∙ whole q _ (w .ensures)
@@ -280,7 +279,7 @@ returns-5 : tie.Need-returns-5
 returns-5 c =
     let k = c .before .before .before .before .before .before .before .before .before .before .before .before .before .before .before .before .before .before .before .before .before .before in
     let q = k .before .before .before in
-    let n = q .before .before .before .before .before .before .before .before .before in
+    let n = q .before .before .before .before .before .before .before .before .before .before in
     let w = c .before .before .before .before .before .before .before .before .before .before .before .before .before .before .before .before .before .before .read-row2 in
     let t = c .before .before .before .before .before .before .before .before .before .before .go .ensures in
     go-is (s n) (σ n) (r n) (off n) (σ n .store) _ (n .before .before .before .before .before .before .before .before .before .before .before .before .before .before .before .before .before .before .args .buffer .now) (seen q) (goes k) (t .0, t .1) (t .2) (t .3) ∙ whole q _ (w .ensures)
@@ -307,10 +306,9 @@ read-spec =
     same-length-9
     same-length-10
     returns-2
-    cast-t39
+    cast-t38
     place-requires
     choose-requires
-    estimate-requires
     decide-requires
     enum-known-verdict
     refused-requires-3
@@ -321,7 +319,7 @@ read-spec =
     enum-known-verdict-2
     cast-read-row-2
     read-row-requires-2
-    cast-t66
+    cast-t69
     go-requires
     same-length-11
     same-length-12

@@ -47,51 +47,51 @@ module _ (p : tie.Else2) where
 
 -- ---- once it is decided
 module _ (q : tie.After-decide) where
-  seen : let n = q .before .before .before .before .before .before .before .before .before in Found (s n) (σ n) (r n) (off n) (n .before .before .entry-of .result) (q .before .before .before .before .before .before .before .place .result) (q .before .before .before .before .choose .result) (q .decide .result)
+  seen : let n = q .before .before .before .before .before .before .before .before .before .before in Found (s n) (σ n) (r n) (off n) (n .before .before .entry-of .result) (q .before .before .before .before .before .before .before .before .place .result) (q .before .before .before .before .before .choose .result) (q .decide .result)
   seen =
-      let p = q .before .before .before .before .before .before .before .before in
-      found (early p) (p .before .before .before .entry-of .ensures) (q .before .before .before .before .before .before .before .place .ensures) (q .before .before .before .before .choose .ensures) (q .before .before .before .estimate .ensures) (q .decide .ensures)
+      let p = q .before .before .before .before .before .before .before .before .before in
+      found (early p) (p .before .before .before .entry-of .ensures) (q .before .before .before .before .before .before .before .before .place .ensures) (q .before .before .before .before .before .choose .ensures) (q .decide .ensures)
 
   -- what `write_row` asks and leaves, and what the call is with the store that it leaves
-  module _ (z : let n = q .before .before .before .before .before .before .before .before .before in accessNumber (s n) (σ n) (r n) (off n) ≡ 0) where
-    ready : let n = q .before .before .before .before .before .before .before .before .before in let a = n .before .before .before .before .before .before .before .before .before .before .before .before .before .before .before .before .before .before .args in
-        (a .column + length (a .bytes .now) ≤ s n .w) × (q .before .before .before .before .before .before .before .place .result .0 * s n .w + s n .w ≤ length (a .store .now))
+  module _ (z : let n = q .before .before .before .before .before .before .before .before .before .before in accessNumber (s n) (σ n) (r n) (off n) ≡ 0) where
+    ready : let n = q .before .before .before .before .before .before .before .before .before .before in let a = n .before .before .before .before .before .before .before .before .before .before .before .before .before .before .before .before .before .before .args in
+        (a .column + length (a .bytes .now) ≤ s n .w) × (q .before .before .before .before .before .before .before .before .place .result .0 * s n .w + s n .w ≤ length (a .store .now))
     ready =
-        let n = q .before .before .before .before .before .before .before .before .before in
+        let n = q .before .before .before .before .before .before .before .before .before .before in
         let a = n .before .before .before .before .before .before .before .before .before .before .before .before .before .before .before .before .before .before .args in
         (bytes-fit (s n) (σ n) (r n) (off n) (a .column) (a .bytes .now) (n .before .before .before .before .write-off .ensures) seen z, place-inside seen z)
 
-    kept-long : let n = q .before .before .before .before .before .before .before .before .before in let a = n .before .before .before .before .before .before .before .before .before .before .before .before .before .before .before .before .before .before .args in (after : List ℕ)
-        → after ≡ written (s n .w) (a .store .now) (q .before .before .before .before .before .before .before .place .result .0) (a .column) (a .bytes .now) → length after ≡ length (a .store .now)
+    kept-long : let n = q .before .before .before .before .before .before .before .before .before .before in let a = n .before .before .before .before .before .before .before .before .before .before .before .before .before .before .before .before .before .before .args in (after : List ℕ)
+        → after ≡ written (s n .w) (a .store .now) (q .before .before .before .before .before .before .before .before .place .result .0) (a .column) (a .bytes .now) → length after ≡ length (a .store .now)
     kept-long after e =
-        let n = q .before .before .before .before .before .before .before .before .before in
+        let n = q .before .before .before .before .before .before .before .before .before .before in
         let a = n .before .before .before .before .before .before .before .before .before .before .before .before .before .before .before .before .before .before .args in
         written-long (s n) (σ n) (r n) (off n) (a .column) (a .bytes .now) (n .before .before .before .before .write-off .ensures) seen z e
 
-  whole : let n = q .before .before .before .before .before .before .before .before .before in let a = n .before .before .before .before .before .before .before .before .before .before .before .before .before .before .before .before .before .before .args in (after : List ℕ)
-      → after ≡ written (s n .w) (a .store .now) (q .before .before .before .before .before .before .before .place .result .0) (a .column) (a .bytes .now)
+  whole : let n = q .before .before .before .before .before .before .before .before .before .before in let a = n .before .before .before .before .before .before .before .before .before .before .before .before .before .before .before .before .before .before .args in (after : List ℕ)
+      → after ≡ written (s n .w) (a .store .now) (q .before .before .before .before .before .before .before .before .place .result .0) (a .column) (a .bytes .now)
       → accessed (s n) (σ n) (r n) (accessNumber (s n) (σ n) (r n) (off n)) after [] [] ≡ write (s n) (σ n) (r n) (a .column) (a .bytes .now)
   whole after e =
-      let n = q .before .before .before .before .before .before .before .before .before in
+      let n = q .before .before .before .before .before .before .before .before .before .before in
       let a = n .before .before .before .before .before .before .before .before .before .before .before .before .before .before .before .before .before .before .args in
       let o = n .before .before .before .before .write-off .ensures in
       write-is (s n) (σ n) (r n) (off n) (a .column) (a .bytes .now) o (written-is (s n) (σ n) (r n) (off n) (a .column) (a .bytes .now) o seen e)
 
 -- ---- that the row stays
 module _ (k : tie.After-enum-told) where
-  stays : let n = k .before .before .before .before .before .before .before .before .before .before .before in Stay ≡ judgementOf (s n) (σ n) (r n) (off n)
+  stays : let n = k .before .before .before .before .before .before .before .before .before .before .before .before in Stay ≡ judgementOf (s n) (σ n) (r n) (off n)
   stays = sym (k .enum-told .given .1) ∙ seen (k .before .before) .decided
 
-  stays-0 : let n = k .before .before .before .before .before .before .before .before .before .before .before in accessNumber (s n) (σ n) (r n) (off n) ≡ 0
-  stays-0 = let n = k .before .before .before .before .before .before .before .before .before .before .before in stay-0 (s n) (σ n) (r n) (off n) stays
+  stays-0 : let n = k .before .before .before .before .before .before .before .before .before .before .before .before in accessNumber (s n) (σ n) (r n) (off n) ≡ 0
+  stays-0 = let n = k .before .before .before .before .before .before .before .before .before .before .before .before in stay-0 (s n) (σ n) (r n) (off n) stays
 
 -- ---- that it is quarantined
 module _ (k : tie.After-known-told2) where
-  goes : let n = k .before .before .before .before .before .before .before .before .before .before .before .before in let g = k .before .verdict2 .given .0 in Go (g .0) (g .1 .0) (g .1 .1 .0) ≡ judgementOf (s n) (σ n) (r n) (off n)
+  goes : let n = k .before .before .before .before .before .before .before .before .before .before .before .before .before in let g = k .before .verdict2 .given .0 in Go (g .0) (g .1 .0) (g .1 .1 .0) ≡ judgementOf (s n) (σ n) (r n) (off n)
   goes = sym (k .before .verdict2 .given .1) ∙ seen (k .before .before .before) .decided
 
-  goes-0 : let n = k .before .before .before .before .before .before .before .before .before .before .before .before in accessNumber (s n) (σ n) (r n) (off n) ≡ 0
-  goes-0 = let n = k .before .before .before .before .before .before .before .before .before .before .before .before in go-0 (s n) (σ n) (r n) (off n) goes
+  goes-0 : let n = k .before .before .before .before .before .before .before .before .before .before .before .before .before in accessNumber (s n) (σ n) (r n) (off n) ≡ 0
+  goes-0 = let n = k .before .before .before .before .before .before .before .before .before .before .before .before .before in go-0 (s n) (σ n) (r n) (off n) goes
 
 tick-number-requires : tie.Need-tick-number-requires
 tick-number-requires c κs = search needs
@@ -158,8 +158,8 @@ returns-2 c =
     (c .refused2 .ensures) (refused-early (s n) (σ n) (r n) (off n) _ (number-is n) (c .before .if2 .taken))
     ∙ write-is (s n) (σ n) (r n) (off n) (n .before .before .before .before .before .before .before .before .before .before .before .before .before .before .before .before .before .before .args .column) (n .before .before .before .before .before .before .before .before .before .before .before .before .before .before .before .before .before .before .args .bytes .now) (n .before .before .before .before .write-off .ensures) refl
 
-cast-t40 : tie.Need-cast-t40
-cast-t40 c = omega (arith, row-small (early c))
+cast-t39 : tie.Need-cast-t39
+cast-t39 c = omega (arith, row-small (early c))
 
 place-requires : tie.Need-place-requires
 place-requires c κs = search needs
@@ -169,11 +169,10 @@ choose-requires c κs =
     let p = c .before .before .before in
     choosable (early p) (p .before .before .before .entry-of .ensures) (c .before .before .place .ensures)
 
-estimate-requires : tie.Need-estimate-requires
-estimate-requires c κs = search needs
-
 decide-requires : tie.Need-decide-requires
-decide-requires c κs = decidable (early (c .before .before .before .before .before .before .before))
+decide-requires c κs =
+    let p = c .before .before .before .before .before .before .before .before in
+    decidable (early p) (p .before .before .before .entry-of .ensures) (c .before .before .before .before .before .before .before .place .ensures) (c .before .before .before .before .choose .ensures)
 
 enum-known-verdict : tie.Need-enum-known-verdict
 enum-known-verdict c = search needs
@@ -208,8 +207,8 @@ write-row-requires-2 c κs =
     let k = c .before .before in
     ready (k .before .before .before) (goes-0 k)
 
-cast-t63 : tie.Need-cast-t63
-cast-t63 c = omega (arith, row-small (early (c .before .before .before .before .before .before .before .before .before .before .before .before .before .before .before .before)))
+cast-t66 : tie.Need-cast-t66
+cast-t66 c = omega (arith, row-small (early (c .before .before .before .before .before .before .before .before .before .before .before .before .before .before .before .before .before)))
 
 go-requires : tie.Need-go-requires
 go-requires c κs =
@@ -236,7 +235,7 @@ same-length-15 c = refl
 returns-3 : tie.Need-returns-3
 returns-3 c =
     let q = c .before .before .before .before in
-    let n = q .before .before .before .before .before .before .before .before .before in
+    let n = q .before .before .before .before .before .before .before .before .before .before in
     refused-is (s n) (σ n) (r n) (off n) (written (s n .w) (σ n .store) (place (s n) (σ n) (r n)) (n .before .before .before .before .before .before .before .before .before .before .before .before .before .before .before .before .before .before .args .column) (n .before .before .before .before .before .before .before .before .before .before .before .before .before .before .before .before .before .before .args .bytes .now)) [] []
     (c .refused3 .ensures) (sym (c .before .before .verdict .given .1) ∙ seen q .decided)
     ∙ write-is (s n) (σ n) (r n) (off n) (n .before .before .before .before .before .before .before .before .before .before .before .before .before .before .before .before .before .before .args .column) (n .before .before .before .before .before .before .before .before .before .before .before .before .before .before .before .before .before .before .args .bytes .now) (n .before .before .before .before .write-off .ensures) refl
@@ -260,7 +259,7 @@ returns-4 : tie.Need-returns-4
 returns-4 c =
     let k = c .before .before .before .before .before .before .before .before .before .before .before .before in
     let q = k .before .before in
-    let n = q .before .before .before .before .before .before .before .before .before in
+    let n = q .before .before .before .before .before .before .before .before .before .before in
     let w = c .before .before .before .before .before .before .before .before .before .write-row in
     let t = c .before .before .before .before .stay .ensures in
     stay-is (s n) (σ n) (r n) (off n) (w .last .0) [] [] (seen q) (stays k) (t .0) (t .1) (t .2) ∙ whole q _ (w .ensures)
@@ -284,7 +283,7 @@ returns-5 : tie.Need-returns-5
 returns-5 c =
     let k = c .before .before .before .before .before .before .before .before .before .before .before .before .before .before .before .before .before .before .before .before .before in
     let q = k .before .before .before in
-    let n = q .before .before .before .before .before .before .before .before .before in
+    let n = q .before .before .before .before .before .before .before .before .before .before in
     let w = c .before .before .before .before .before .before .before .before .before .before .before .before .before .before .before .before .before .before .write-row2 in
     let t = c .before .before .before .before .before .before .before .before .before .before .go .ensures in
     go-is (s n) (σ n) (r n) (off n) (w .last .0) [] [] (seen q) (goes k) (t .0, t .1) (t .2) (t .3) ∙ whole q _ (w .ensures)
@@ -311,10 +310,9 @@ write-spec =
     same-length-9
     same-length-10
     returns-2
-    cast-t40
+    cast-t39
     place-requires
     choose-requires
-    estimate-requires
     decide-requires
     enum-known-verdict
     refused-requires-3
@@ -325,7 +323,7 @@ write-spec =
     enum-known-verdict-2
     cast-write-row-2
     write-row-requires-2
-    cast-t63
+    cast-t66
     go-requires
     same-length-11
     same-length-12

@@ -1,67 +1,22 @@
--- `row_scan::index_of_row` meets its contract. Invariant: the search of the whole ends where the search from i on does.
--- Assumes nothing.
-use Prim.Native.Nat.{_-_}
-use lib.Dec.{eqb}
-use lib.ListN.{length}
+-- `row_scan::index_of_row` meets its contract: the blocks that are skipped hold nothing, and the rest is searched. Assumes nothing.
+use native.Mathlib.Nat.{zero-add}
 use native.Mathlib.Omega.{arith}
-use borrow.Author.Needs.{needs}
-use borrow.Author.Tests.{eq-eqb, ne-eqb}
-use Rattle.scan.specs.Scan.{Skipped}
-use Rattle.scan.proofs.Loops.{skipped-on, skipped-one, found-here, found-none}
+use mathlib.Core.Path.{sym, _∙_}
+use Rattle.scan.proofs.Loops.{skipped-on}
 use Rattle.row_scan.proofs.index_of_row.Statement.{statement}
 use Rattle.row_scan.proofs.index_of_row.Tie as tie
 
-abbrev Inv-loop : tie.InvT-loop
-Inv-loop rows place far i₀ i = Skipped (λ x. eqb x place) rows 0 i
-
-abbrev μ-loop : tie.MeasureT-loop
-μ-loop rows place far i₀ i = length rows - i
-
-skip-rows-requires : tie.Need-skip-rows-requires Inv-loop μ-loop
+skip-rows-requires : tie.Need-skip-rows-requires
 skip-rows-requires c κs = (omega arith, omega arith)
 
-skip-rows-requires-2 : tie.Need-skip-rows-requires-2 Inv-loop μ-loop
+skip-rows-requires-2 : tie.Need-skip-rows-requires-2
 skip-rows-requires-2 c κs = (omega arith, omega arith)
 
-loop-holds : tie.Need-loop-holds Inv-loop μ-loop
-loop-holds c = skipped-on (c .before .skip-rows .ensures) (c .skip-rows2 .ensures)
+search-rows-requires : tie.Need-search-rows-requires
+search-rows-requires c κs = omega arith
 
-mul-if1 : tie.Need-mul-if1 Inv-loop μ-loop
-mul-if1 c = search needs
-
-shared-slice-read-if1 : tie.Need-shared-slice-read-if1 Inv-loop μ-loop
-shared-slice-read-if1 c = omega arith
-
-returns : tie.Need-returns Inv-loop μ-loop
-returns c =
-    found-here (c .before .before .before .loop .inv) (c .before .before .loop-test .taken) (eq-eqb _ _ (c .if1 .taken))
-
-add-i : tie.Need-add-i Inv-loop μ-loop
-add-i c = search needs
-
-loop-less : tie.Need-loop-less Inv-loop μ-loop
-loop-less c = omega arith
-
-loop-again : tie.Need-loop-again Inv-loop μ-loop
-loop-again c =
-    skipped-one (c .before .before .before .loop .inv) (c .before .before .loop-test .taken) (ne-eqb _ _ (c .if1 .left))
-
-returns-2 : tie.Need-returns-2 Inv-loop μ-loop
-returns-2 c = found-none (c .before .loop .inv) (omega arith)
+returns : tie.Need-returns
+returns c = c .search-rows .ensures ∙ sym (skipped-on (c .before .before .skip-rows .ensures) (c .before .skip-rows2 .ensures) .same) ∙ zero-add _
 
 pub index-of-row-spec : {M : Type 1} → statement M
-index-of-row-spec =
-    tie.close
-    (tie.spec
-    Inv-loop
-    μ-loop
-    skip-rows-requires
-    skip-rows-requires-2
-    loop-holds
-    mul-if1
-    shared-slice-read-if1
-    returns
-    add-i
-    loop-less
-    loop-again
-    returns-2)
+index-of-row-spec = tie.close (tie.spec skip-rows-requires skip-rows-requires-2 search-rows-requires returns)

@@ -1,6 +1,7 @@
 -- `quarantine`: 9, then the destination's pointers, then where the row goes. Assumes nothing.
-use Prim.Native.Nat.{ℕ, _<_}
+use Prim.Native.Nat.{ℕ, _-_, _<_, _≤_}
 use mathlib.Core.Path.{_≡_, ap}
+use mathlib.Core.Bool.{Bool}
 use native.Mathlib.Omega.{arith}
 use lib.ListN.{getD}
 use Rattle.geometry.specs.declared.Slot.{Slot}
@@ -9,54 +10,71 @@ use Rattle.geometry.proofs.Tests.{told-not, told-yes}
 use Rattle.tracking.proofs.Sums.{getD-any}
 use Rattle.engine.specs.Steps.{destinationFrom}
 use Rattle.engine.specs.Ladder.{pointsBack}
-use Rattle.engine.proofs.Moves.{rise-in, destination-from-in}
-use Rattle.verdict.proofs.Judged.{no-room, unsound, sound}
+use Rattle.engine.proofs.Moves.{destination-from-in}
+use Rattle.engine.proofs.Skipping.{skip-most}
+use Rattle.seek.specs.Seeking.{skipsBefore, skippedBefore}
+use Rattle.verdict.proofs.Judged.{too-many, all-found, no-room, unsound, sound}
 use borrow.Author.Needs.{needs}
 use Rattle.verdict.proofs.quarantine.Statement.{statement}
 use Rattle.verdict.proofs.quarantine.Tie as tie
 
--- ---- once the destination and the rise are known
-module _ (p : tie.After-rise) where
+-- ---- once the slots that are skipped are counted
+module _ (p : tie.After-skipped) where
+  abbrev skip : ℕ → Bool
+  skip = let a = p .before .before .before .before .before .args in skipsBefore (a .s) (a .entry .0) (a .changed) (a .rows .now) (a .counts .now)
+
+  few : let a = p .before .before .before .before .before .args in p .skipped .result ≤ a .s .q - a .ring .passed
+  few =
+      let a = p .before .before .before .before .before .args in
+      omega (arith, p .skipped .ensures, skip-most skip (a .s .q) (a .s .q - a .ring .passed) (a .ring .head))
+
+-- ---- once the destination is known
+module _ (n : tie.After-destination) where
   abbrev d : ℕ
-  d = p .before .destination .result .0
+  d = n .destination .result .0
 
-  target : let a = p .before .before .before .before .args in d ≡ destinationFrom (a .s) (a .ring .head) (a .entry .0)
-  target = ap (λ (x : Slot). x .0) (p .before .destination .ensures)
+  target : let a = n .before .before .before .before .before .before .before .before .before .args in d ≡ destinationFrom (a .s) (a .ring .head) (n .before .before .before .before .skipped .result)
+  target = ap (λ (x : Slot). x .0) (n .destination .ensures)
 
-  below : d < p .before .before .before .before .args .s .q
+  below : d < n .before .before .before .before .before .before .before .before .before .args .s .q
   below =
-      let a = p .before .before .before .before .args in
-      omega (arith, target, destination-from-in (a .s) (a .ring .head) (a .entry .0) (omega arith))
+      let a = n .before .before .before .before .before .before .before .before .before .args in
+      omega (arith, target, destination-from-in (a .s) (a .ring .head) (n .before .before .before .before .skipped .result) (omega arith))
 
-  held : let reverse = p .before .before .before .before .args .reverse .now in getD reverse d 0 ≡ getD reverse d empty
-  held = getD-any (p .before .before .before .before .args .reverse .now) d 0 empty (omega (arith, below))
+  held : let reverse = n .before .before .before .before .before .before .before .before .before .args .reverse .now in getD reverse d 0 ≡ getD reverse d empty
+  held = getD-any (n .before .before .before .before .before .before .before .before .before .args .reverse .now) d 0 empty (omega (arith, below))
 
-destination-requires : tie.Need-destination-requires
-destination-requires c κs = search needs
+  all : let a = n .before .before .before .before .before .before .before .before .before .args in
+      n .before .before .before .before .skipped .result ≡ skippedBefore (a .s) (a .ring .head) (a .entry .0) (a .changed) (a .rows .now) (a .counts .now)
+  all =
+      let p = n .before .before .before .before in
+      let a = p .before .before .before .before .before .args in
+      all-found (skip p) (a .s .q) (a .ring .passed) (a .ring .head) (omega arith) (p .skipped .ensures) (n .before .if1 .left)
 
-rise-requires : tie.Need-rise-requires
-rise-requires c κs = search needs
+skipped-requires : tie.Need-skipped-requires
+skipped-requires c κs = search needs
 
 add-if1 : tie.Need-add-if1
-add-if1 c =
-    let p = c .before in
-    let a = p .before .before .before .before .args in
-    omega (arith, p .rise .ensures, rise-in (a .s) (a .ring .head) (d p) (omega arith))
+add-if1 c = omega (arith, few (c .before))
 
 returns : tie.Need-returns
 returns c =
     let p = c .before .before .before in
-    let a = p .before .before .before .before .args in
-    no-room (a .s) (a .ring) (a .forward .now) (a .reverse .now) (a .entry .0) (target p) (p .rise .ensures) (c .if1 .taken)
+    let a = p .before .before .before .before .before .args in
+    no-room (a .s) (a .ring) (a .forward .now) (a .reverse .now) _
+    (too-many (skip p) (a .s .q) (a .ring .passed) (a .ring .head) (omega arith) (p .skipped .ensures) (c .if1 .taken))
+
+destination-requires : tie.Need-destination-requires
+destination-requires c κs = search needs
 
 cast-at : tie.Need-cast-at
 cast-at c = search needs
 
-mul-t12 : tie.Need-mul-t12
-mul-t12 c = search needs
+mul-t15 : tie.Need-mul-t15
+mul-t15 c = search needs
 
-shared-slice-read-t14 : tie.Need-shared-slice-read-t14
-shared-slice-read-t14 c = omega (arith, below (c .before .before .before .before .before))
+shared-slice-read-t17 : tie.Need-shared-slice-read-t17
+shared-slice-read-t17 c = omega (arith, below (c .before .before))
 
 cast-points-back : tie.Need-cast-points-back
 cast-points-back c = search needs
@@ -66,30 +84,34 @@ points-back-requires c κs = search needs
 
 returns-2 : tie.Need-returns-2
 returns-2 c =
-    let p = c .before .before .before .before .before .before .before .before in
-    let a = p .before .before .before .before .args in
-    unsound (a .s) (a .ring) (a .forward .now) (a .reverse .now) (a .entry .0) (target p) (p .rise .ensures)
-    (c .before .before .before .before .before .if1 .left) (held p) (told-not {t = pointsBack (getD (a .reverse .now) (d p) 0) (a .s .n) (a .forward .now) (d p)} (c .before .points-back .ensures) (c .if2 .taken))
+    let n = c .before .before .before .before .before in
+    let a = n .before .before .before .before .before .before .before .before .before .args in
+    unsound (a .s) (a .ring) (a .forward .now) (a .reverse .now) _ (all n) (n .before .if1 .left) (target n) (held n)
+    (told-not {t = pointsBack (getD (a .reverse .now) (d n) 0) (a .s .n) (a .forward .now) (d n)} (c .before .points-back .ensures) (c .if2 .taken))
+
+add-t13 : tie.Need-add-t13
+add-t13 c = search needs
 
 returns-3 : tie.Need-returns-3
 returns-3 c =
-    let p = c .before .before .before .before .before .before .before .before in
-    let a = p .before .before .before .before .args in
-    sound (a .s) (a .ring) (a .forward .now) (a .reverse .now) (a .entry .0) (target p) (p .rise .ensures)
-    (c .before .before .before .before .before .if1 .left) (held p) (told-yes {t = pointsBack (getD (a .reverse .now) (d p) 0) (a .s .n) (a .forward .now) (d p)} (c .before .points-back .ensures) (c .if2 .left))
+    let n = c .before .before .before .before .before in
+    let a = n .before .before .before .before .before .before .before .before .before .args in
+    sound (a .s) (a .ring) (a .forward .now) (a .reverse .now) _ (all n) (n .before .if1 .left) (target n) (held n)
+    (told-yes {t = pointsBack (getD (a .reverse .now) (d n) 0) (a .s .n) (a .forward .now) (d n)} (c .before .points-back .ensures) (c .if2 .left))
 
 pub quarantine-spec : {M : Type 1} → statement M
 quarantine-spec =
     tie.close
     (tie.spec
-    destination-requires
-    rise-requires
+    skipped-requires
     add-if1
     returns
+    destination-requires
     cast-at
-    mul-t12
-    shared-slice-read-t14
+    mul-t15
+    shared-slice-read-t17
     cast-points-back
     points-back-requires
     returns-2
+    add-t13
     returns-3)

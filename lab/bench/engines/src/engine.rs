@@ -1,7 +1,9 @@
-//! The engine of document 01 in plain Rust, with every refusal judged at every call. How tables are searched is left
-//! open, so that the idiomatic and the tuned engine differ in nothing else. It has the calls that the streams make.
+//! The engine of document 01 in plain Rust, with every refusal judged at every call. How tables are searched, and so how
+//! the slot for a move is found, is left open: the idiomatic and the tuned engine differ in nothing else. It has the
+//! calls that the streams make.
 
 use crate::scan::Scan;
+use crate::worn::{Passes, Ring, Tracked};
 use aqua::Lent;
 use model::memory::{Answer, Control, Settings, NONE};
 
@@ -61,7 +63,8 @@ fn judge_control<S: Scan>(s: &Settings, m: &Lent) -> Result<(), u32> {
     }
 }
 
-/// Step 2, without a change. Inlined, as `access` is: measured, that is the fastest form of the two engines.
+/// Step 2, without a change. Inlined, as `access` and both functions of a move are: measured, that is the fastest form
+/// of the two engines.
 #[inline(always)]
 fn choose<S: Scan>(m: &Lent, place: usize) -> Way {
     if let Some(entry) = S::row(m.rows, place as u16) {
@@ -73,13 +76,17 @@ fn choose<S: Scan>(m: &Lent, place: usize) -> Way {
     }
 }
 
-/// Where the row goes, with 9 and the destination's 7 judged.
-fn plan_move(s: &Settings, m: &Lent, slot: Option<usize>) -> Result<Move, u32> {
-    let head = m.control.head as usize;
-    let (to, rise) = if slot == Some(head) { ((head + 1) % s.q as usize, 2) } else { (head, 1) };
-    if m.control.passed + rise > s.q {
-        return Err(9);
-    }
+/// Where the row goes from its place, with 9 and the destination's 7 judged. `entry` and `count` are those of step 2.
+#[inline(always)]
+fn plan_move<S: Passes>(
+    s: &Settings, m: &Lent, slot: Option<usize>, place: usize, entry: usize, count: u32,
+) -> Result<Move, u32> {
+    let (rows, counts) = (&*m.rows, &*m.counts);
+    let tracked = Tracked { rows, counts, entry, place: place as u16, count, threshold: s.a };
+    let (q, head) = (s.q as usize, m.control.head as usize);
+    let ring = Ring { first: s.n as usize, q, head, left: (s.q - m.control.passed) as usize, own: slot };
+    let passed = S::passed(&tracked, &ring).ok_or(9u32)?;
+    let (to, rise) = (ring.slot(passed), passed as u32 + 1);
     let sent_home = match m.reverse[to] {
         EMPTY => None,
         row if m.forward.get(usize::from(row)) == Some(&(to as u16)) => Some(usize::from(row)),
@@ -88,6 +95,7 @@ fn plan_move(s: &Settings, m: &Lent, slot: Option<usize>) -> Result<Move, u32> {
     Ok(Move { to, rise, sent_home })
 }
 
+#[inline(always)]
 fn accept(s: &Settings, m: &mut Lent, row: usize, slot: Option<usize>, place: usize, moved: &Option<Move>) {
     m.control.acts += 1;
     let Some(Move { to, rise, sent_home }) = moved else { return };
@@ -103,12 +111,12 @@ fn accept(s: &Settings, m: &mut Lent, row: usize, slot: Option<usize>, place: us
     }
     m.reverse[*to] = row as u16;
     m.forward[row] = *to as u16;
-    m.control.head = (*to as u32 + 1) % s.q;
+    m.control.head = if *to as u32 + 1 < s.q { *to as u32 + 1 } else { 0 };
     m.control.passed += rise;
 }
 
 #[inline(always)]
-pub fn access<S: Scan>(s: &Settings, m: &mut Lent, row: u32, buffer: &mut [u8]) -> Result<Answer, u32> {
+pub fn access<S: Scan + Passes>(s: &Settings, m: &mut Lent, row: u32, buffer: &mut [u8]) -> Result<Answer, u32> {
     judge_settings(s)?;
     judge_lengths(s, m)?;
     judge_control::<S>(s, m)?;
@@ -130,12 +138,13 @@ pub fn access<S: Scan>(s: &Settings, m: &mut Lent, row: u32, buffer: &mut [u8]) 
     }
     let place = slot.map_or(row, |slot| n + slot);
     let way = choose::<S>(m, place);
-    let estimate = match way {
-        Way::Raise(_, count) | Way::Take(_, count) => count,
-        Way::Spill => 0,
+    let (estimate, moved) = match way {
+        Way::Raise(entry, count) | Way::Take(entry, count) => {
+            let due = count % s.a == 0;
+            (count, if due { Some(plan_move::<S>(s, m, slot, place, entry, count)?) } else { None })
+        }
+        Way::Spill => (0, None),
     };
-    let due = estimate != 0 && estimate % s.a == 0;
-    let moved = if due { Some(plan_move(s, m, slot)?) } else { None };
     buffer.copy_from_slice(&m.store[place * w..(place + 1) * w]);
     match way {
         Way::Raise(entry, count) => m.counts[entry] = count,

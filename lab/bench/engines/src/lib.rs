@@ -4,6 +4,7 @@
 
 mod engine;
 mod scan;
+mod worn;
 
 pub use engine::set_up;
 

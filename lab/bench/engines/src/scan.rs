@@ -38,7 +38,8 @@ fn skip<T: Copy + PartialEq, const BLOCK: usize>(table: &[T], from: usize, value
     from + whole * BLOCK
 }
 
-fn lowest<T: Copy + PartialEq>(table: &[T], value: T) -> Option<usize> {
+/// The lowest entry with that value.
+pub fn lowest<T: Copy + PartialEq>(table: &[T], value: T) -> Option<usize> {
     let far = skip::<T, 64>(table, 0, value);
     let from = skip::<T, 16>(table, far, value);
     table[from..].iter().position(|&x| x == value).map(|at| from + at)

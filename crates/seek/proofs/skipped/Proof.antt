@@ -1,0 +1,35 @@
+-- `seek::skipped` meets its contract: the first slots tell all, or all are looked at. Assumes nothing.
+use borrow.Author.Needs.{needs}
+use Rattle.seek.proofs.Turns.{first-tell}
+use Rattle.seek.proofs.skipped.Statement.{statement}
+use Rattle.seek.proofs.skipped.Tie as tie
+
+sub-most : tie.Need-sub-most
+sub-most c = search needs
+
+least-requires : tie.Need-least-requires
+least-requires c κs = search needs
+
+skipped-by-scan-requires : tie.Need-skipped-by-scan-requires
+skipped-by-scan-requires c κs = search needs
+
+returns : tie.Need-returns
+returns c =
+    first-tell _ _ _ _ 16 (c .before .before .least .ensures) (c .before .skipped-by-scan .ensures) (c .if1 .taken)
+
+skipped-by-marking-requires : tie.Need-skipped-by-marking-requires
+skipped-by-marking-requires c κs = search needs
+
+returns-2 : tie.Need-returns-2
+returns-2 c = c .skipped-by-marking .ensures
+
+pub skipped-spec : {M : Type 1} → statement M
+skipped-spec =
+    tie.close
+    (tie.spec
+    sub-most
+    least-requires
+    skipped-by-scan-requires
+    returns
+    skipped-by-marking-requires
+    returns-2)

@@ -1,0 +1,217 @@
+// The search for the destination of a row that is quarantined (step 4): how many slots the head skips. It looks at the
+// tracker as it is before step 2, and leaves out the entry that step 2 will change. Nothing lent is written here.
+// For each of the first 16 slots the tracker is searched. Where all of them are skipped, the worn slots are marked in one
+// pass over the tracker: an access that is refused for want of a slot, again and again, would else search the tracker
+// for each slot that is left.
+ghost use mathlib.Core.Path.{_≡_};
+ghost use mathlib.Core.Logic.{_≢_};
+ghost use mathlib.Core.Bool.{false, cond};
+ghost use Prim.Native.Nat.{_+_, _-_, _%_, _<_, _≤_};
+ghost use lib.Dec.{ltb};
+ghost use lib.ListN.{length, set, replicate};
+ghost use Rattle.geometry.specs.Entry.{empty};
+ghost use Rattle.scan.specs.Scan.{indexOf};
+ghost use Rattle.tracking.specs.Worn.{worn};
+ghost use Rattle.engine.specs.Steps.{skippedOf};
+ghost use Rattle.seek.specs.Seeking.{skipsBefore, Seekable, markedBy, skipsMarked, Marked};
+use geometry::ForwardEntry;
+use geometry::Ring;
+use geometry::Settings;
+
+// Returns the lowest entry, but for one left out, that names a physical row; the number of entries where none does.
+fn lowest_but(rows: &[u16], changed: usize, name: u16) -> usize
+    requires { ⌜ (changed < length (now rows)) × (name ≢ empty) ⌝ }
+    ensures { λ r. ⌜ r ≡ indexOf name (set (now (rows .entry)) changed empty) ⌝ }
+{
+    let i = row_scan::index_from(rows, 0, name);
+    if i == changed {
+        return row_scan::index_from(rows, changed + 1, name);
+    }
+    i
+}
+
+// Tells whether the lowest entry that names a slot's physical row, but for the entry left out, has a count of the
+// threshold or more. (first: the physical row of slot 0)
+fn is_worn(
+    threshold: u32,
+    changed: usize,
+    first: u32,
+    slot: u32,
+    rows: &[u16],
+    counts: &[u32],
+) -> bool
+    requires { ⌜
+        (changed < length (now rows)) × (length (now rows) ≡ length (now counts)) × (first + slot < empty) ⌝ }
+    ensures { λ r. ⌜ r ≡ worn threshold (set (now (rows .entry)) changed empty) (now (counts .entry)) (first + slot) ⌝ }
+{
+    let i = lowest_but(rows, changed, (first + slot) as u16);
+    if i < counts.len() {
+        return threshold <= counts[i];
+    }
+    false
+}
+
+// Tells whether the head skips a slot.
+fn is_skipped(
+    s: Settings,
+    entry: ForwardEntry,
+    changed: usize,
+    slot: u32,
+    rows: &[u16],
+    counts: &[u32],
+) -> bool
+    requires { ⌜ Seekable s changed (now rows) (now counts) × (slot < s .q) ⌝ }
+    ensures { λ r. ⌜ r ≡ skipsBefore s (entry .0) changed (now (rows .entry)) (now (counts .entry)) slot ⌝ }
+{
+    if (entry.0 as u32) == slot {
+        return true;
+    }
+    is_worn(s.a, changed, s.n, slot, rows, counts)
+}
+
+// Returns the slot after a slot, round Q.
+fn slot_after(s: Settings, slot: u32) -> u32
+    requires { ⌜ slot < s .q ⌝ }
+    ensures { λ r. ⌜ r ≡ (slot + 1) % s .q ⌝ }
+{
+    if slot + 1 == s.q {
+        return 0;
+    }
+    slot + 1
+}
+
+// Returns how many of so many slots from one on, round Q, are skipped before the first that is not. The tracker is
+// searched for each.
+fn skipped_by_scan(
+    s: Settings,
+    entry: ForwardEntry,
+    changed: usize,
+    from: u32,
+    most: u32,
+    rows: &[u16],
+    counts: &[u32],
+) -> u32
+    requires { ⌜ Seekable s changed (now rows) (now counts) × (from < s .q) ⌝ }
+    ensures { λ r.
+        let skip = skipsBefore s (entry .0) changed (now (rows .entry)) (now (counts .entry)) in
+        ⌜ r ≡ skippedOf skip (s .q) most from ⌝ }
+{
+    let mut slot = from;
+    let mut n: u32 = 0;
+    while n < most {
+        if !is_skipped(s, entry, changed, slot, rows, counts) {
+            return n;
+        }
+        slot = slot_after(s, slot);
+        n += 1;
+    }
+    n
+}
+
+// Returns a table with no slot marked.
+fn unmarked() -> [bool; 5500]
+    ensures { λ r. ⌜ r ≡ replicate 5500 false ⌝ }
+{
+    [false; 5500]
+}
+
+// Marks the slot whose physical row an entry names as worn or not, where it names one. (first: the physical row of slot 0)
+fn mark(first: u32, name: u16, is: bool, marks: &mut [bool])
+    ensures { λ _. ⌜ now (marks .exit) ≡ markedBy first name is (now (marks .entry)) ⌝ }
+{
+    let row = name as u32;
+    if row < first {
+        return;
+    }
+    let slot = (row - first) as usize;
+    if slot < marks.len() {
+        marks[slot] = is;
+    }
+}
+
+// Marks every slot, from the last entry of the tracker to the first: so the lowest entry that names a slot has the say.
+fn mark_worn(s: Settings, changed: usize, rows: &[u16], counts: &[u32], marks: &mut [bool])
+    requires { ⌜
+        Seekable s changed (now rows) (now counts) × (now marks ≡ replicate 5500 false) ⌝ }
+    ensures { λ _. ⌜ Marked s changed (now (rows .entry)) (now (counts .entry)) (now (marks .exit)) ⌝ }
+{
+    let mut i = rows.len();
+    while 0 < i {
+        i -= 1;
+        if i != changed {
+            mark(s.n, rows[i], s.a <= counts[i], marks);
+        }
+    }
+}
+
+// Returns how many of so many slots from one on, round Q, are skipped before the first that is not, by the marks of the
+// worn ones.
+fn skipped_by_marks(s: Settings, entry: ForwardEntry, from: u32, most: u32, marks: &[bool]) -> u32
+    requires { ⌜ (s .q ≤ length (now marks)) × (from < s .q) ⌝ }
+    ensures { λ r. ⌜ r ≡ skippedOf (skipsMarked (entry .0) (now (marks .entry))) (s .q) most from ⌝ }
+{
+    let mut slot = from;
+    let mut n: u32 = 0;
+    while n < most {
+        let at = slot as usize;
+        if !(((entry.0 as u32) == slot) | marks[at]) {
+            return n;
+        }
+        slot = slot_after(s, slot);
+        n += 1;
+    }
+    n
+}
+
+// Returns the same as `skipped_by_scan`, with one pass over the tracker.
+fn skipped_by_marking(
+    s: Settings,
+    entry: ForwardEntry,
+    changed: usize,
+    from: u32,
+    most: u32,
+    rows: &[u16],
+    counts: &[u32],
+) -> u32
+    requires { ⌜ Seekable s changed (now rows) (now counts) × (from < s .q) ⌝ }
+    ensures { λ r.
+        let skip = skipsBefore s (entry .0) changed (now (rows .entry)) (now (counts .entry)) in
+        ⌜ r ≡ skippedOf skip (s .q) most from ⌝ }
+{
+    let mut marks = unmarked();
+    mark_worn(s, changed, rows, counts, &mut marks);
+    skipped_by_marks(s, entry, from, most, &marks)
+}
+
+// Returns the lesser of two numbers.
+fn least(a: u32, b: u32) -> u32
+    ensures { λ r. ⌜ r ≡ cond (ltb a b) a b ⌝ }
+{
+    if a < b {
+        return a;
+    }
+    b
+}
+
+// Returns how many slots the head skips, of the Q − `passed` that it may still look at.
+pub fn skipped(
+    s: Settings,
+    ring: Ring,
+    entry: ForwardEntry,
+    changed: usize,
+    rows: &[u16],
+    counts: &[u32],
+) -> u32
+    requires { ⌜
+        Seekable s changed (now rows) (now counts) × (ring .head < s .q) × (ring .passed ≤ s .q) ⌝ }
+    ensures { λ r.
+        let skip = skipsBefore s (entry .0) changed (now (rows .entry)) (now (counts .entry)) in
+        ⌜ r ≡ skippedOf skip (s .q) (s .q - ring .passed) (ring .head) ⌝ }
+{
+    let most = s.q - ring.passed;
+    let n = skipped_by_scan(s, entry, changed, ring.head, least(most, 16), rows, counts);
+    if n < 16 {
+        return n;
+    }
+    skipped_by_marking(s, entry, changed, ring.head, most, rows, counts)
+}
