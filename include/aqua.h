@@ -9,17 +9,22 @@
  * The caller lends, at each call the same memory as the last call left it:
  *   store    (n + q) * w bytes
  *   forward  n 16-bit numbers       reverse  q 16-bit numbers
- *   rows     k 16-bit numbers       counts   k 32-bit numbers
+ *   rows     b * k 16-bit numbers   counts   b * k 32-bit numbers
  * A length counts elements, not bytes. What the caller must keep to, since no call can test it: a pointer is not null, also
  * where its length is 0; at it lie at least as many elements as its length says; what is lent does not overlap; and nobody
  * else writes it while a call runs.
  *
+ * Physical rows are the homes, 0 to n - 1, and after them the slots: slot s is physical row n + s. Physical row p is of bank
+ * p % b. Each bank has a tracker of its own: bank c has the entries c * k to c * k + k - 1 of rows and counts. An
+ * access counts in the bank of its place, the physical row that it opens; for a row that is in a slot, this is the slot's
+ * bank and not that of the row's home.
+ *
  * Refusal numbers, the first that applies:
  *   1  a setting is outside its range        2  l is a * (k + 1) or more
- *   3  something lent has another length     4  the control record or the tracker counts are unsound
+ *   3  something lent has another length     4  the control record or the tracker counts of a bank are unsound
  *   5  the row is n or more                  6  the read buffer is not w long, or the write runs past w
  *   7  the pointers of the row, or of the slot that it would move to, are unsound
- *   8  l accesses were accepted in this epoch
+ *   8  l accesses of the bank of the row's place were accepted in this epoch
  *   9  the row would have to move, and in this epoch each slot is gone by or worn (below)
  */
 #ifndef AQUA_H
@@ -33,25 +38,31 @@ extern "C" {
 #endif
 
 #define AQUA_NONE 65535u
+#define AQUA_BANKS 16 /* the most banks; the control record has a place for each */
 
 /* Fixed from one set-up to the next. */
 typedef struct {
     uint32_t n; /* visible rows, 1 to 60,000 */
     uint32_t q; /* quarantine slots, 2 to 5,500 */
     uint32_t w; /* bytes in a row, 1 to 8,192 */
-    uint32_t k; /* tracker entries, 1 to 4,096 */
+    uint32_t k; /* tracker entries of each bank, 1 to 4,096 */
     uint32_t a; /* threshold, 1 to 65,535 */
-    uint32_t l; /* accesses allowed per epoch, 1 to 1,360,000; less than a * (k + 1) */
+    uint32_t l; /* accesses allowed per epoch in each bank, 1 to 1,360,000; less than a * (k + 1) */
+    uint32_t b; /* banks, 1 to 16 */
 } aqua_settings;
 
-/* The control record. Only the calls write it. A row that moves goes to the first slot from head on, round q, that is not
- * worn, and head goes by the worn ones and by that slot. A slot is worn where the lowest tracker entry that names its
- * physical row, n + slot, has a count of a or more once the access is counted; the slot that the row leaves always is. */
+/* The control record. Only the calls write it. Its places for banks from b on are 0 after set-up; no other call looks at
+ * them or changes them. Unsound, number 4, is head of q or more, passed above q, and in a bank below b acts above l, spill
+ * above acts, spill of a or more, or a count above acts.
+ *
+ * A row that moves goes to the first slot from head on, round q, that is not worn, of whatever bank, and head goes by the
+ * worn ones and by that slot. A slot is worn where the lowest entry of the slot's bank that names its physical row, n +
+ * slot, has a count of a or more once the access is counted; the slot that the row leaves always is. */
 typedef struct {
     uint32_t head;   /* next slot */
     uint32_t passed; /* slots the head has gone by this epoch, the worn ones among them */
-    uint32_t spill;
-    uint32_t acts; /* accepted accesses this epoch */
+    uint32_t spill[AQUA_BANKS];
+    uint32_t acts[AQUA_BANKS]; /* accepted accesses of each bank this epoch */
 } aqua_control;
 
 /* The answer of a read or a write. In a refusal place and estimate are 0, and slot and row are AQUA_NONE. */
@@ -65,8 +76,8 @@ typedef struct {
 
 /* What the estimate of an accepted access tells, whatever calls were made since set-up. The row was moved exactly where the
  * estimate is not 0 and settings.a divides it. Accesses opened place in this epoch, this one included, at most estimate
- * times and at least estimate - control.spill times; where the estimate is 0, at most control.spill times. control.spill is
- * as the access left it, and below settings.a. */
+ * times and at least estimate - spill times; where the estimate is 0, at most spill times. Here spill is that of the place's
+ * bank, control.spill[place % settings.b], as the access left it; it is below settings.a. */
 
 /* Where a part of the store lies. */
 typedef struct {
@@ -80,7 +91,7 @@ typedef struct {
     uint64_t value;
 } aqua_sum;
 
-/* Begins a new history: tables and tracker empty, control record 0. The store is left as it is. */
+/* Begins a new history: tables and trackers empty, the whole control record 0. The store is left as it is. */
 uint32_t aqua_set_up(aqua_control *control, aqua_settings settings, const uint8_t *store, size_t store_length,
                      uint16_t *forward, size_t forward_length, uint16_t *reverse, size_t reverse_length,
                      uint16_t *rows, size_t rows_length, uint32_t *counts, size_t counts_length);
@@ -97,7 +108,8 @@ aqua_outcome aqua_write(aqua_control *control, aqua_settings settings, uint32_t 
                         uint16_t *forward, size_t forward_length, uint16_t *reverse, size_t reverse_length,
                         uint16_t *rows, size_t rows_length, uint32_t *counts, size_t counts_length);
 
-/* Ends the epoch: the tracker starts anew; head, pointers and store remain. */
+/* Ends the epoch: the trackers of all banks start anew, with passed and each bank's spill and acts 0; head, pointers and
+ * store remain. */
 uint32_t aqua_tick(aqua_control *control, aqua_settings settings, const uint8_t *store, size_t store_length,
                    const uint16_t *forward, size_t forward_length, const uint16_t *reverse, size_t reverse_length,
                    uint16_t *rows, size_t rows_length, uint32_t *counts, size_t counts_length);
@@ -114,7 +126,7 @@ aqua_span aqua_inspect_span(const aqua_control *control, aqua_settings settings,
                             const uint16_t *reverse, size_t reverse_length, const uint16_t *rows, size_t rows_length,
                             const uint32_t *counts, size_t counts_length);
 
-/* tREFW * B / (A * tRC + B * tmov), rounded up; times in nanoseconds. */
+/* tREFW * B / (A * tRC + B * tmov), rounded up; times in nanoseconds. This B, banks, is 1 to 1,024. */
 aqua_sum aqua_least_size(uint64_t trefw, uint64_t trc, uint64_t tmov, uint64_t banks, uint64_t threshold);
 
 /* tREFW * (tREFI - tRFC) / (tREFI * tRC), rounded down; times in nanoseconds. */

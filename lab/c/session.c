@@ -1,6 +1,7 @@
 /* A whole caller of the engine, through the header. It makes the steps of a trace file on standard input and prints a
  * line for each, as the trace program does; lab/c/run gives it document 01's session and compares the lines. Then it
- * writes and inspects a row, and asks for the sizing sums. It says which answers are wrong, and then fails. */
+ * writes and inspects a row, asks for the sizing sums, and makes a short session with two banks. It says which answers
+ * are wrong, and then fails. */
 #include <stdio.h>
 #include <string.h>
 
@@ -10,8 +11,9 @@
 enum { N = 4, Q = 2, W = 1, K = 2, TICK = 65535 };
 
 static uint8_t store[(N + Q) * W];
-static uint16_t forward[N], reverse[Q], rows[K];
-static uint32_t counts[K];
+static uint16_t forward[N], reverse[Q], rows[2 * K]; /* the tracker entries of up to two banks */
+static uint32_t counts[2 * K];
+static size_t entries = K; /* as many as are lent */
 static aqua_control control;
 static aqua_settings settings;
 static int failures;
@@ -24,20 +26,21 @@ static void expect(int right, const char *what) {
 }
 
 static aqua_outcome read_row(uint32_t row, uint8_t *buffer) {
-    return aqua_read(&control, settings, row, buffer, W, store, sizeof store, forward, N, reverse, Q, rows, K, counts,
-                     K);
+    return aqua_read(&control, settings, row, buffer, W, store, sizeof store, forward, N, reverse, Q, rows, entries,
+                     counts, entries);
 }
 
 static uint32_t set_up(aqua_settings s) {
-    return aqua_set_up(&control, s, store, sizeof store, forward, N, reverse, Q, rows, K, counts, K);
+    return aqua_set_up(&control, s, store, sizeof store, forward, N, reverse, Q, rows, entries, counts, entries);
 }
 
 static uint32_t tick(void) {
-    return aqua_tick(&control, settings, store, sizeof store, forward, N, reverse, Q, rows, K, counts, K);
+    return aqua_tick(&control, settings, store, sizeof store, forward, N, reverse, Q, rows, entries, counts, entries);
 }
 
 static aqua_span inspect_span(uint32_t row) {
-    return aqua_inspect_span(&control, settings, row, store, sizeof store, forward, N, reverse, Q, rows, K, counts, K);
+    return aqua_inspect_span(&control, settings, row, store, sizeof store, forward, N, reverse, Q, rows, entries, counts,
+                             entries);
 }
 
 /* a number, or a dash for none */
@@ -48,11 +51,12 @@ static void field(int some, uint64_t value) {
         printf(" -");
 }
 
-/* a trace file: 6 and the settings, then a count of steps, each a row to read or TICK */
+/* a trace file: 6 and the settings, with one bank; then a count of steps, each a row to read or TICK */
 static void session(void) {
     uint32_t count = 0, step = 0, row;
     expect(scanf(" 6 %u %u %u %u %u %u %u", &settings.n, &settings.q, &settings.w, &settings.k, &settings.a,
                  &settings.l, &count) == 7, "a trace file begins with the settings and a count");
+    settings.b = 1;
     memset(forward, 7, sizeof forward); /* garbage, of which set-up leaves nothing */
     memset(counts, 7, sizeof counts);
     memset(&control, 7, sizeof control);
@@ -83,17 +87,17 @@ static void bytes(void) {
     uint8_t value = 42, buffer[W] = {0};
     expect(set_up(settings) == 0, "set-up is accepted again");
     aqua_outcome o = aqua_write(&control, settings, 1, 0, &value, 1, store, sizeof store, forward, N, reverse, Q, rows,
-                                K, counts, K);
+                                entries, counts, entries);
     expect(o.number == 0 && o.place == 1 && o.estimate == 1, "a write at home");
-    o = aqua_write(&control, settings, 1, W, &value, 1, store, sizeof store, forward, N, reverse, Q, rows, K, counts,
-                   K);
+    o = aqua_write(&control, settings, 1, W, &value, 1, store, sizeof store, forward, N, reverse, Q, rows, entries,
+                   counts, entries);
     expect(o.number == 6 && o.place == 0 && o.slot == AQUA_NONE && o.row == AQUA_NONE && o.estimate == 0,
            "a write past W gets 6");
     o = read_row(1, buffer);
     expect(o.number == 0 && o.slot == 0 && o.estimate == settings.a && buffer[0] == 42,
            "the read that moves the row returns the byte");
-    expect(aqua_inspect_number(&control, settings, 1, store, sizeof store, forward, N, reverse, Q, rows, K, counts,
-                               K) == 0, "inspect is accepted");
+    expect(aqua_inspect_number(&control, settings, 1, store, sizeof store, forward, N, reverse, Q, rows, entries, counts,
+                               entries) == 0, "inspect is accepted");
     aqua_span span = inspect_span(1);
     expect(span.length == W && span.start == (N + 0) * W && store[span.start] == 42, "the row lies in slot 0");
     span = inspect_span(N);
@@ -114,11 +118,56 @@ static void sums(void) {
     edge = settings;
     edge.q = 1;
     expect(set_up(edge) == 1, "Q = 1 is refused 1");
+    edge = settings;
+    edge.b = 0;
+    expect(set_up(edge) == 1, "B = 0 is refused 1");
+    edge.b = AQUA_BANKS + 1;
+    expect(set_up(edge) == 1, "B = 17 is refused 1");
+    edge.b = 2;
+    expect(set_up(edge) == 3, "two banks need twice as many entries as are lent");
+}
+
+/* Two banks, each with two entries and three accesses in an epoch. Rows 0 and 2 and slot 0, which is physical row 4, are of
+ * bank 0; rows 1 and 3 and slot 1, which is physical row 5, are of bank 1. */
+static void two_banks(void) {
+    static const struct {
+        uint32_t row, number, place, slot, estimate;
+    } steps[] = {
+        {1, 0, 1, AQUA_NONE, 1}, /* bank 1 */
+        {1, 0, 1, 0, 2},         /* A is 2: row 1 moves to slot 0, which is of the other bank */
+        {1, 0, 4, AQUA_NONE, 1}, /* and counts in bank 0 from now on */
+        {0, 0, 0, AQUA_NONE, 1}, /* bank 0's second entry */
+        {2, 0, 2, AQUA_NONE, 0}, /* bank 0 has no count of 0 left, so its spill rises; these were its three accesses */
+        {1, 8, 0, AQUA_NONE, 0}, /* 8 by the bank of slot 0, where row 1 is; that of its home has had only two accesses */
+        {3, 0, 3, AQUA_NONE, 1}, /* which is why row 3 is read */
+        {3, 8, 0, AQUA_NONE, 0}, /* and now bank 1 has had three too */
+    };
+    uint8_t buffer[W];
+    settings.l = 3;
+    settings.b = 2;
+    entries = 2 * K;
+    memset(&control, 7, sizeof control);
+    expect(set_up(settings) == 0, "set-up is accepted with two banks");
+    for (int bank = 0; bank < AQUA_BANKS; bank++)
+        expect(control.spill[bank] == 0 && control.acts[bank] == 0, "set-up clears the places of all banks");
+    for (size_t i = 0; i < sizeof steps / sizeof *steps; i++) {
+        aqua_outcome o = read_row(steps[i].row, buffer);
+        expect(o.number == steps[i].number && o.place == steps[i].place && o.slot == steps[i].slot
+                   && o.row == AQUA_NONE && o.estimate == steps[i].estimate, "the steps with two banks");
+    }
+    expect(control.acts[0] == 3 && control.acts[1] == 3, "each bank counts its own accesses");
+    expect(control.spill[0] == 1 && control.spill[1] == 0, "each bank has its own spill");
+    expect(rows[0] == 4 && rows[1] == 0 && rows[K] == 1 && rows[K + 1] == 3, "each bank has its own entries");
+    expect(tick() == 0 && control.acts[0] == 0 && control.acts[1] == 0 && control.spill[0] == 0,
+           "a tick begins an epoch in every bank");
+    expect(control.head == 1, "a tick leaves the head");
+    expect(read_row(1, buffer).place == N, "and the places");
 }
 
 int main(void) {
     session();
     bytes();
     sums();
+    two_banks();
     return failures != 0;
 }

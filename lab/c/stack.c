@@ -5,8 +5,9 @@
  * memcpy or memset would have the dynamic linker on the stack.
  *
  * The calls are those of random histories: rows of many lengths are read, written, moved, sent home and inspected, and
- * some calls are refused. In some histories rows move past runs of worn slots, for which the library's search takes another
- * way after the sixteenth, or find nothing after a run; runs have up to 2,750 slots, with the most slots and entries. */
+ * some calls are refused. In some histories rows move past runs of worn slots, for which the library's search takes
+ * another way after the sixteenth, or find nothing after a run; runs have up to 2,750 slots, with the most slots and
+ * entries. Half of the histories have more than one bank. */
 #include <stdio.h>
 #include <stdlib.h>
 #include <string.h>
@@ -18,11 +19,11 @@ enum { STATED = 512, STATED_ACCESS = 6400 }; /* the header's figures; the second
 
 enum { ROOM = 65536, FILLED = 16384, PATTERN = 0xa5 };
 enum { ROWS = 40, SLOTS = 20, LONGEST = 8192, ENTRIES = 200, HISTORIES = 2000, CALLS = 200 };
-enum { MOST_ROWS = 5500, MOST_SLOTS = 5500, MOST_ENTRIES = 4096, MANY = 16 };
+enum { MOST_ROWS = 5500, MOST_SLOTS = 5500, MOST_ENTRIES = 4096, MANY = 16 }; /* entries of one bank */
 
 static uint8_t store[(ROWS + SLOTS) * LONGEST], bytes[LONGEST + 1]; /* one more than a row, for refused reads */
-static uint16_t forward[MOST_ROWS], reverse[MOST_SLOTS], rows[MOST_ENTRIES];
-static uint32_t counts[MOST_ENTRIES];
+static uint16_t forward[MOST_ROWS], reverse[MOST_SLOTS], rows[AQUA_BANKS * MOST_ENTRIES];
+static uint32_t counts[AQUA_BANKS * MOST_ENTRIES];
 static aqua_control control;
 static aqua_settings s;
 
@@ -36,7 +37,7 @@ static aqua_sum sum;
 static uint32_t accepted, refused, moved, sent_home; /* how many of the calls */
 static uint32_t past_many, none_left;                /* moves past more than MANY slots, and 9 after as many */
 
-#define LENT store, store_length, forward, s.n, reverse, s.q, rows, s.k, counts, s.k
+#define LENT store, store_length, forward, s.n, reverse, s.q, rows, s.b * s.k, counts, s.b * s.k
 
 static uint8_t *frame; /* of the caller */
 #define CALLER(name, call)                                                                                             \
@@ -116,6 +117,7 @@ static void history(void) {
     s.k = 1 + below(below(2) ? 8 : ENTRIES);
     s.a = 1 + below(4);
     s.l = s.a * (s.k + 1) - 1;
+    s.b = below(2) ? 1 : 2 + below(AQUA_BANKS - 1);
     store_length = (size_t)(s.n + s.q) * s.w;
     measure(LEAST_SIZE);
     measure(MOST_ACTIVATIONS);
@@ -155,13 +157,13 @@ static void access_row(uint32_t which) {
 /* With A = 1 each access moves its row. Rows 0 to q - 1 fill the slots. Then those in the slots from half on leave them
  * worn, but for the last `spared` slots, for the slots from 0 on. Other rows take what is left before the worn slots, and
  * go past these; where none was spared, that is a 9. */
-static void worn(uint32_t q, uint32_t w, uint32_t k, uint32_t spared) {
+static void worn(uint32_t q, uint32_t w, uint32_t k, uint32_t b, uint32_t spared) {
     uint32_t half = q / 2;
-    s = (aqua_settings){.n = q, .q = q, .w = w, .k = k, .a = 1, .l = k};
+    s = (aqua_settings){.n = q, .q = q, .w = w, .k = k, .a = 1, .l = k, .b = b};
     store_length = (size_t)(s.n + s.q) * s.w;
     measure(SET_UP);
     for (uint32_t i = 0; i < q; i++) {
-        if (control.acts == s.l)
+        if (control.acts[i % s.b] == s.l)
             measure(TICK);
         access_row(i);
     }
@@ -177,9 +179,11 @@ int main(void) {
     for (int i = 0; i < HISTORIES; i++)
         history();
     for (uint32_t i = 0; i < 100; i++)
-        worn(36 + i % 23, i % 3 ? 1 : LONGEST / 2, ENTRIES, i % 4);
-    for (uint32_t spared = 0; spared < 3; spared++)
-        worn(MOST_SLOTS, 1, MOST_ENTRIES, spared);
+        worn(36 + i % 23, i % 3 ? 1 : LONGEST / 2, ENTRIES, i % 2 ? 1 : 1 + i / 2 % AQUA_BANKS, i % 4);
+    for (uint32_t spared = 0; spared < 3; spared++) {
+        worn(MOST_SLOTS, 1, MOST_ENTRIES, 1, spared);
+        worn(MOST_SLOTS, 1, MOST_ENTRIES, AQUA_BANKS, spared);
+    }
     printf("stack: %u calls accepted, %u refused, %u rows moved, %u sent home\n", accepted, refused, moved, sent_home);
     printf("stack: %u rows moved past more than %d slots, %u refused with 9 while more than %d were left\n", past_many,
            MANY, none_left, MANY);

@@ -22,6 +22,8 @@ pub record Ranges (S : Settings) : Type 0 where
   pub a-high : S .a ≤ 65535
   pub l-low : 1 ≤ S .l
   pub l-high : S .l ≤ 1360000
+  pub b-low : 1 ≤ S .b
+  pub b-high : S .b ≤ 16
 
 pub ranges-facts : (S : Settings) → rangesHold S ≡ true → Ranges S
 unfolding rangesHold
@@ -32,6 +34,7 @@ ranges-facts S h =
     let k : inRange 1 4096 (S .k) ≡ true = search (and-left, and-right) depth 8 in
     let a : inRange 1 65535 (S .a) ≡ true = search (and-left, and-right) depth 8 in
     let l : inRange 1 1360000 (S .l) ≡ true = search (and-left, and-right) depth 8 in
+    let b : inRange 1 16 (S .b) ≡ true = search (and-left, and-right) depth 8 in
     record {
       n-low = low 1 60000 (S .n) n;
       n-high = high 1 60000 (S .n) n;
@@ -45,6 +48,8 @@ ranges-facts S h =
       a-high = high 1 65535 (S .a) a;
       l-low = low 1 1360000 (S .l) l;
       l-high = high 1 1360000 (S .l) l;
+      b-low = low 1 16 (S .b) b;
+      b-high = high 1 16 (S .b) b;
     }
 
 pub limit-fact : (S : Settings) → limitHolds S ≡ true → S .l < S .a * (S .k + 1)
@@ -55,8 +60,8 @@ pub record Exact (S : Settings) (lent : Lengths) : Type 0 where
   pub store : lent .store ≡ (S .n + S .q) * S .w
   pub forward : lent .forward ≡ S .n
   pub reverse : lent .reverse ≡ S .q
-  pub rows : lent .rows ≡ S .k
-  pub counts : lent .counts ≡ S .k
+  pub rows : lent .rows ≡ S .b * S .k
+  pub counts : lent .counts ≡ S .b * S .k
 
 pub lengths-facts : (S : Settings) (lent : Lengths) → lengthsHold S lent ≡ true → Exact S lent
 unfolding lengthsHold storeHolds
@@ -65,8 +70,8 @@ lengths-facts S lent h =
       store = eqb-true (lent .store) ((S .n + S .q) * S .w) (search (and-left, and-right) depth 8);
       forward = eqb-true (lent .forward) (S .n) (search (and-left, and-right) depth 8);
       reverse = eqb-true (lent .reverse) (S .q) (search (and-left, and-right) depth 8);
-      rows = eqb-true (lent .rows) (S .k) (search (and-left, and-right) depth 8);
-      counts = eqb-true (lent .counts) (S .k) (search (and-left, and-right) depth 8);
+      rows = eqb-true (lent .rows) (S .b * S .k) (search (and-left, and-right) depth 8);
+      counts = eqb-true (lent .counts) (S .b * S .k) (search (and-left, and-right) depth 8);
     }
 
 pub lengths-hold : (S : Settings) (lent : Lengths) → Exact S lent → lengthsHold S lent ≡ true
@@ -76,6 +81,6 @@ lengths-hold S lent e =
       eq-eqb (lent .store) ((S .n + S .q) * S .w) (e .store),
       eq-eqb (lent .forward) (S .n) (e .forward),
       eq-eqb (lent .reverse) (S .q) (e .reverse),
-      eq-eqb (lent .rows) (S .k) (e .rows),
-      eq-eqb (lent .counts) (S .k) (e .counts),
+      eq-eqb (lent .rows) (S .b * S .k) (e .rows),
+      eq-eqb (lent .counts) (S .b * S .k) (e .counts),
     )

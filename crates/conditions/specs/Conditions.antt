@@ -11,7 +11,7 @@ use Rattle.geometry.specs.Ranges.{inRange}
 abbrev pub thresholdInRange : ℕ → Bool
 thresholdInRange a = inRange 1 65535 a
 
--- the table of settings; its failure is number 1
+-- the table of settings, and 'A new setting B, 1 to 16, stands last.' (document 02, Ask 5); its failure is number 1
 unfoldable pub rangesHold : Settings → Bool
 rangesHold S =
     inRange 1 60000 (S .n)
@@ -20,8 +20,10 @@ rangesHold S =
     && inRange 1 4096 (S .k)
     && thresholdInRange (S .a)
     && inRange 1 1360000 (S .l)
+    && inRange 1 16 (S .b)
 
--- 'And L must be less than A × (K + 1).'; its failure is number 2
+-- 'And L must be less than A × (K + 1).'; its failure is number 2. L is a bank's: 'L, the check behind 2 .. are per bank'
+-- (document 02, Ask 5)
 unfoldable pub limitHolds : Settings → Bool
 limitHolds S = ltb (S .l) (S .a * (S .k + 1))
 
@@ -30,12 +32,12 @@ unfoldable pub storeHolds : Settings → ℕ → Bool
 storeHolds S bytes = eqb bytes ((S .n + S .q) * S .w)
 
 -- 'a store of (N + Q) × W bytes; a forward table of N 16-bit numbers and a reverse table of Q 16-bit numbers;
--- tracker rows (K 16-bit numbers) and tracker counts (K 32-bit numbers). Each has exactly that length.';
--- its failure is number 3
+-- tracker rows (K 16-bit numbers) and tracker counts (K 32-bit numbers). Each has exactly that length.'; now 'Tracker
+-- buffers hold B × K entries' (document 02, Ask 5). Its failure is number 3
 unfoldable pub lengthsHold : Settings → Lengths → Bool
 lengthsHold S lent =
     storeHolds S (lent .store)
     && eqb (lent .forward) (S .n)
     && eqb (lent .reverse) (S .q)
-    && eqb (lent .rows) (S .k)
-    && eqb (lent .counts) (S .k)
+    && eqb (lent .rows) (S .b * S .k)
+    && eqb (lent .counts) (S .b * S .k)

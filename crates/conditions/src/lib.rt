@@ -14,6 +14,7 @@ pub fn ranges_hold(s: Settings) -> bool
         & ((1 <= s.k) & (s.k <= 4096))
         & ((1 <= s.a) & (s.a <= 65535))
         & ((1 <= s.l) & (s.l <= 1360000))
+        & ((1 <= s.b) & (s.b <= 16))
 }
 
 // Condition 2: L is less than A × (K + 1). The product of any two 32-bit numbers, and one more, fits 64 bits.
@@ -39,9 +40,10 @@ pub fn store_holds(s: Settings, store: usize) -> bool
 pub fn lengths_hold(s: Settings, lent: Lengths) -> bool
     ensures { λ r. ⌜ r ≡ lengthsHold s lent ⌝ }
 {
+    let entries = (s.b as usize) * (s.k as usize);
     store_holds(s, lent.store)
         & (lent.forward == (s.n as usize))
         & (lent.reverse == (s.q as usize))
-        & (lent.rows == (s.k as usize))
-        & (lent.counts == (s.k as usize))
+        & (lent.rows == entries)
+        & (lent.counts == entries)
 }

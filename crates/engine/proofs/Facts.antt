@@ -5,22 +5,24 @@ use mathlib.Core.Path.{_≡_, refl, sym}
 use mathlib.Core.Logic.{_⊎_, inl, inr, _≢_}
 use mathlib.Core.Bool.{Bool, true, false, cond, not, _&&_, false≢true}
 use mathlib.Core.List.{List}
-use lib.Dec.{ltb, eqb}
+use lib.Dec.{ltb, leb, eqb}
 use lib.ListN.{length, getD}
 use borrow.Author.Tests.{ltb-true, ltb-false, leb-false, eqb-true, eqb-false, not-true, not-false, lt-ltb, le-ltb, lt-leb, eq-eqb, ne-eqb}
 use Rattle.geometry.specs.declared.Settings.{Settings}
-use Rattle.geometry.specs.declared.Control.{Control}
 use Rattle.geometry.specs.declared.Ring.{Ring}
 use Rattle.conditions.specs.Conditions.{rangesHold, limitHolds, lengthsHold}
 use Rattle.geometry.specs.Entry.{empty}
 use Rattle.geometry.proofs.Cases.{split}
-use Rattle.conditions.proofs.Facts.{Ranges}
+use Rattle.conditions.proofs.Facts.{Ranges, ranges-facts}
+use Rattle.banks.specs.Portions.{portion}
+use Rattle.banks.specs.Banks.{bankOf}
+use Rattle.banks.proofs.Banks.{bank-in, bank-none, bank-fails}
 use Rattle.geometry.proofs.Tests.{and-left, and-right, or-left, or-right}
 use Rattle.scan.specs.Scan.{some}
 use Rattle.scan.proofs.Scans.{some-none}
-use Rattle.engine.specs.State.{State, lengthsOf, ringOf, forwardOf, reverseOf}
+use Rattle.engine.specs.State.{State, Tracker, lengthsOf, trackerOf, trackerAt, ringOf, forwardOf, reverseOf}
 use Rattle.engine.specs.Steps.{place, moves, skipped, destinationFrom, destination, rise}
-use Rattle.engine.specs.Ladder.{settingsNumber, fitNumber, ringUnsound, trackerUnsound, controlUnsound, pointsBack, rowNumber, quarantineNumber, lateNumber, setUpNumber, tickNumber, inspectNumber, accessNumber}
+use Rattle.engine.specs.Ladder.{settingsNumber, fitNumber, ringUnsound, trackerUnsound, trackersUnsound, controlUnsound, pointsBack, rowNumber, quarantineNumber, lateNumber, setUpNumber, tickNumber, inspectNumber, accessNumber}
 use Rattle.engine.proofs.Rungs.{pass, unmet, passes, goes-by, reach, only, past, stops-all, ladder-all, if-all, either}
 
 -- a row of the table whose condition is that a test fails
@@ -63,39 +65,57 @@ pub tick-passes : (S : Settings) (σ : State) → Fit S σ → controlUnsound S 
 unfolding tickNumber
 tick-passes S σ f c = passes (fit-passes S σ f) (goes-by 4 c)
 
--- what 4 asks
+-- what 4 asks of a bank's tracker
+pub record Trusted (S : Settings) (t : Tracker) : Type 0 where
+  pub acts-in : t .acts ≤ S .l
+  pub spill-in : t .spill ≤ t .acts
+  pub spill-below : t .spill < S .a
+  pub none-above : some (λ count. ltb (t .acts) count) (t .counts) ≡ false
+
+-- what it asks of the whole
 pub record Steady (S : Settings) (σ : State) : Type 0 where
   pub head-in : σ .control .head < S .q
   pub passed-in : σ .control .passed ≤ S .q
-  pub acts-in : σ .control .acts ≤ S .l
-  pub spill-in : σ .control .spill ≤ σ .control .acts
-  pub spill-below : σ .control .spill < S .a
+  pub banks : (c : ℕ) → c < S .b → Trusted S (trackerOf S σ c)
 
-pub steady : (S : Settings) (σ : State) → controlUnsound S (σ .control) (σ .counts) ≡ false → Steady S σ
-unfolding controlUnsound ringUnsound trackerUnsound
-steady S σ h =
+trusted : (S : Settings) (t : Tracker) → trackerUnsound S (t .spill) (t .acts) (t .counts) ≡ false → Trusted S t
+unfolding trackerUnsound
+trusted S t h =
     record {
-      head-in = leb-false (S .q) (σ .control .head) (search (or-left, or-right) depth 8);
-      passed-in = ltb-false (S .q) (σ .control .passed) (search (or-left, or-right) depth 8);
-      acts-in = ltb-false (S .l) (σ .control .acts) (search (or-left, or-right) depth 8);
-      spill-in = ltb-false (σ .control .acts) (σ .control .spill) (search (or-left, or-right) depth 8);
-      spill-below = leb-false (S .a) (σ .control .spill) (search (or-left, or-right) depth 8);
+      acts-in = ltb-false (S .l) (t .acts) (search (or-left, or-right) depth 8);
+      spill-in = ltb-false (t .acts) (t .spill) (search (or-left, or-right) depth 8);
+      spill-below = leb-false (S .a) (t .spill) (search (or-left, or-right) depth 8);
+      none-above = search (or-left, or-right) depth 8;
     }
 
-pub none-above : (S : Settings) (control : Control) (counts : List ℕ) → controlUnsound S control counts ≡ false → some (λ count. ltb (control .acts) count) counts ≡ false
-unfolding controlUnsound ringUnsound trackerUnsound
-none-above S control counts h = search (or-left, or-right) depth 8
+trusted-passes : (S : Settings) (t : Tracker) → Trusted S t → trackerUnsound S (t .spill) (t .acts) (t .counts) ≡ false
+unfolding trackerUnsound
+trusted-passes S t w =
+    rw (le-ltb (S .l) (t .acts) (w .acts-in), le-ltb (t .acts) (t .spill) (w .spill-in), lt-leb (S .a) (t .spill) (w .spill-below), w .none-above)
 
-pub steady-passes : (S : Settings) (σ : State) → Steady S σ → ((i : ℕ) → i < length (σ .counts) → getD (σ .counts) i 0 ≤ σ .control .acts) → controlUnsound S (σ .control) (σ .counts) ≡ false
-unfolding controlUnsound ringUnsound trackerUnsound
-steady-passes S σ s counts =
+-- a bank whose counts are at most its accesses
+pub none-above-all : (acts : ℕ) (counts : List ℕ) → ((i : ℕ) → i < length counts → getD counts i 0 ≤ acts) → some (λ count. ltb acts count) counts ≡ false
+none-above-all acts counts most = some-none (λ count. ltb acts count) counts (λ i b. le-ltb acts (getD counts i 0) (most i b))
+
+pub steady : (S : Settings) (σ : State) → controlUnsound S (σ .control) (σ .counts) ≡ false → Steady S σ
+unfolding controlUnsound ringUnsound trackersUnsound
+steady S σ h =
+    let ring = or-left (ringUnsound S (ringOf (σ .control))) (trackersUnsound S (σ .control .spill) (σ .control .acts) (σ .counts)) h in
+    let banks = or-right (ringUnsound S (ringOf (σ .control))) (trackersUnsound S (σ .control .spill) (σ .control .acts) (σ .counts)) h in
+    record {
+      head-in = leb-false (S .q) (σ .control .head) (or-left _ (ltb (S .q) (σ .control .passed)) ring);
+      passed-in = ltb-false (S .q) (σ .control .passed) (or-right (leb (S .q) (σ .control .head)) _ ring);
+      banks = λ c b. trusted S (trackerOf S σ c) (bank-fails _ (S .b) c banks b);
+    }
+
+pub steady-passes : (S : Settings) (σ : State) → Steady S σ → controlUnsound S (σ .control) (σ .counts) ≡ false
+unfolding controlUnsound ringUnsound trackersUnsound
+steady-passes S σ s =
     rw (
       lt-leb (S .q) (σ .control .head) (s .head-in),
       le-ltb (S .q) (σ .control .passed) (s .passed-in),
-      le-ltb (S .l) (σ .control .acts) (s .acts-in),
-      le-ltb (σ .control .acts) (σ .control .spill) (s .spill-in),
-      lt-leb (S .a) (σ .control .spill) (s .spill-below),
-      some-none (λ count. ltb (σ .control .acts) count) (σ .counts) (λ i b. le-ltb (σ .control .acts) (getD (σ .counts) i 0) (counts i b)),
+      bank-none (λ c. trackerUnsound S (getD (σ .control .spill) c 0) (getD (σ .control .acts) c 0) (portion (S .k) c (σ .counts))) (S .b)
+      (λ c b. trusted-passes S (trackerOf S σ c) (s .banks c b)),
     )
 
 -- ---- the two rows with 7
@@ -192,7 +212,7 @@ unfolding accessNumber
 access-all P p0 p1 p2 p3 p4 p5 p6 p7 p8 p9 S σ r off =
     ladder-all P _ _ (tick-all P p0 p1 p2 p3 p4 S σ) (λ e.
     ladder-all P _ _ (row-all P p0 p5 S (σ .reverse) (forwardOf σ r) r off (λ e. p6) (λ b e. p7)) (λ e.
-    late-all P p0 p8 p9 S (ringOf (σ .control)) (σ .control .acts) (σ .forward) (σ .reverse) (skipped S σ r) (moves S σ r) (λ d e. p7)))
+    late-all P p0 p8 p9 S (ringOf (σ .control)) (trackerAt S σ (place S σ r) .acts) (σ .forward) (σ .reverse) (skipped S σ r) (moves S σ r) (λ d e. p7)))
 
 pub inspect-all : (P : ℕ → Type 0) → P 0 → P 1 → P 2 → P 3 → P 4 → P 5 → P 7 → (S : Settings) (σ : State) (r : ℕ) → P (inspectNumber S σ r)
 unfolding inspectNumber
@@ -241,7 +261,8 @@ pub record Reached (S : Settings) (σ : State) (r : ℕ) (off : Bool) : Type 0 w
   pub row-in : r < S .n
   pub span-in : off ≡ false
   pub pointers : pointersHold S σ r ≡ true
-  pub more : σ .control .acts < S .l
+  -- the bank of the place has accesses left
+  pub more : trackerAt S σ (place S σ r) .acts < S .l
 
 -- past 9 and the destination's 7 too
 pub record Accepted (S : Settings) (σ : State) (r : ℕ) (off : Bool) : Type 0 where
@@ -271,12 +292,14 @@ module _ (S : Settings) (σ : State) (r : ℕ) (off : Bool) where
   quarantine : ℕ
   quarantine = quarantineNumber S (ringOf (σ .control)) (σ .forward) (σ .reverse) (skipped S σ r)
 
-  reached : tickNumber S σ ≡ 0 → rowNumber S (σ .reverse) (forwardOf σ r) r off ≡ 0 → eqb (σ .control .acts) (S .l) ≡ false → Reached S σ r off
+  reached : tickNumber S σ ≡ 0 → rowNumber S (σ .reverse) (forwardOf σ r) r off ≡ 0 → eqb (trackerAt S σ (place S σ r) .acts) (S .l) ≡ false → Reached S σ r off
   reached t row a =
       let f = tick-facts S σ t in
       let g = row-facts S (σ .reverse) (forwardOf σ r) r off row in
-      let most : σ .control .acts ≤ S .l = steady S σ (f .1) .acts-in in
-      let n : σ .control .acts ≢ S .l = eqb-false (σ .control .acts) (S .l) a in
+      let c : ℕ = bankOf S (place S σ r) in
+      let c-in : c < S .b = bank-in S (place S σ r) (ranges-facts S (f .0 .ranges) .b-low) in
+      let most : (trackerOf S σ c) .acts ≤ S .l = steady S σ (f .1) .banks c c-in .acts-in in
+      let n : (trackerOf S σ c) .acts ≢ S .l = eqb-false ((trackerOf S σ c) .acts) (S .l) a in
       record { fit = f .0; control = f .1; row-in = g .0; span-in = g .1; pointers = g .2; more = omega arith }
 
   quarantine-facts : quarantine ≡ 0 → (σ .control .passed + rise S σ r ≤ S .q) × (destinationHolds S σ (destination S σ r) ≡ true)
@@ -314,10 +337,11 @@ module _ (S : Settings) (σ : State) (r : ℕ) (off : Bool) where
   unfolding accessNumber lateNumber quarantine
   accepts A =
       let R : Reached S σ r off = A .reached in
-      let acts-more : σ .control .acts < S .l = R .more in
+      let acts : ℕ = trackerAt S σ (place S σ r) .acts in
+      let acts-more : acts < S .l = R .more in
       passes (tick-passes S σ (R .fit) (R .control))
       (passes (row-passes S (σ .reverse) (forwardOf σ r) r off (R .row-in) (R .span-in) (R .pointers))
-      (passes (goes-by 8 (ne-eqb (σ .control .acts) (S .l) (λ e. omega arith)))
+      (passes (goes-by 8 (ne-eqb acts (S .l) (λ e. omega arith)))
       (if-passes (moves S σ r) quarantine (λ d. quarantine-passes (A .room d) (A .target d)))))
 
   pub wanting : accessNumber S σ r off ≡ 9 → Wanting S σ r off

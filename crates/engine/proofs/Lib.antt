@@ -5,6 +5,8 @@ pub mod Window
 pub mod Skipping
 pub mod Ahead
 pub mod Pointers
+pub mod Trackers
+pub mod Counting
 pub mod Moves
 pub mod Worn
 pub mod Answers

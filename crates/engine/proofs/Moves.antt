@@ -15,15 +15,16 @@ use Rattle.geometry.specs.Entry.{empty}
 use Rattle.geometry.proofs.Cases.{split}
 use Rattle.geometry.proofs.Tests.{or-left}
 use Rattle.conditions.proofs.Facts.{Exact}
-use Rattle.tracking.proofs.View.{Counting, Tracks, tracks}
+use Rattle.tracking.proofs.View.{tracks}
 use Rattle.row_layout.specs.Bytes.{copied}
 use Rattle.row_layout.proofs.Laws.{byteAt, length-copied, copied-to, copied-other}
 use Rattle.engine.specs.declared.Move.{Move}
 use Rattle.engine.specs.declared.Move.the-variants.{Stayed, ToSlot, OverSlot}
-use Rattle.engine.specs.State.{State, lengthsOf, forwardOf, reverseOf}
-use Rattle.engine.specs.Steps.{place, tracked, moves, skips, skipped, destinationFrom, destination, riseTo, rise, move, left, settled}
+use Rattle.engine.specs.State.{State, Tracker, lengthsOf, trackerAt, forwardOf, reverseOf}
+use Rattle.engine.specs.Steps.{place, moves, skips, skipped, destinationFrom, destination, riseTo, rise, move, left, settled}
 use Rattle.engine.proofs.Window.{Slide, next-in}
 use Rattle.engine.proofs.Ahead.{distance, ahead, goes-past}
+use Rattle.engine.proofs.Trackers.{CountingAt, TracksAt, counted-rows-long, counted-counts-long}
 use Rattle.engine.proofs.Pointers.{Sound, Relinked, marks-none, place-is, place-in, left-long, holder, relinked-to, relinked-over}
 
 -- ---- where an access leaves its row, with what decides it
@@ -107,15 +108,11 @@ pub record Moved (S : Settings) (σ : State) (r : ℕ) (store : List ℕ) (d : �
   pub lengths : Exact S (lengthsOf σ′)
 
 module _ (S : Settings) (σ : State) (sound : Sound S σ) (r : ℕ) (row-in : r < S .n) where
-  -- the tracker, wherever the row is left
-  pub tracks-access : S .l < S .a * (S .k + 1) → σ .control .acts < S .l → Counting (S .k) (σ .rows) (σ .counts) (σ .control .spill) (σ .control .acts)
-      → Tracks (S .a) (S .k) (place S σ r) (σ .rows) (σ .counts) (σ .control .spill) (σ .control .acts) (tracked S σ r)
+  -- the trackers, wherever the row is left
+  pub tracks-access : S .l < S .a * (S .k + 1) → trackerAt S σ (place S σ r) .acts < S .l → CountingAt S σ (place S σ r) → TracksAt S σ r
   tracks-access few more C =
-      tracks (S .a) (S .k) (S .l) (place S σ r) (σ .rows) (σ .counts) (σ .control .spill) (σ .control .acts) (sound .ranges .a-low) few more C
-
-  pub counting-settled : (store : List ℕ) (m : Move) → Tracks (S .a) (S .k) (place S σ r) (σ .rows) (σ .counts) (σ .control .spill) (σ .control .acts) (tracked S σ r)
-      → Counting (S .k) ((settled S σ r store m) .rows) ((settled S σ r store m) .counts) ((settled S σ r store m) .control .spill) ((settled S σ r store m) .control .acts)
-  counting-settled store m T = T .after
+      let t : Tracker = trackerAt S σ (place S σ r) in
+      tracks (S .a) (S .k) (S .l) (place S σ r) (t .rows) (t .counts) (t .spill) (t .acts) (sound .ranges .a-low) few more C
 
   p-in : place S σ r < S .n + S .q
   p-in = place-in S σ sound r row-in
@@ -125,8 +122,7 @@ module _ (S : Settings) (σ : State) (sound : Sound S σ) (r : ℕ) (row-in : r 
   not-home d n y y-in at e =
       elim (place-is S σ sound r row-in) [ inl a ↦ n (ap (forwardOf σ) (sym (a .1) ∙ e) ∙ at) | inr a ↦ omega (arith, a .1) ]
 
-  module _ (T : Tracks (S .a) (S .k) (place S σ r) (σ .rows) (σ .counts) (σ .control .spill) (σ .control .acts) (tracked S σ r))
-      (store : List ℕ) (long : length store ≡ (S .n + S .q) * S .w) (d : ℕ) (rises : riseTo S (σ .control .head) d ≡ rise S σ r)
+  module _ (store : List ℕ) (long : length store ≡ (S .n + S .q) * S .w) (d : ℕ) (rises : riseTo S (σ .control .head) d ≡ rise S σ r)
       (went : Slide (skips S σ r) (S .q) (σ .control .head) (σ .control .passed) d ((d + 1) % S .q) (σ .control .passed + rise S σ r))
       (fewer : ahead (skips S σ r) (S .q) (σ .control .head) (σ .control .passed)
       ≡ skipped S σ r + ahead (skips S σ r) (S .q) ((d + 1) % S .q) (σ .control .passed + rise S σ r)) where
@@ -163,8 +159,8 @@ module _ (S : Settings) (σ : State) (sound : Sound S σ) (r : ℕ) (row-in : r 
             store = length-copied (S .w) (S .n + S .q) store (place S σ r) (S .n + d) long p-in target-in ∙ long;
             forward = length-set (σ .forward) r d ∙ sound .lengths .forward;
             reverse = reverse-long;
-            rows = T .after .rows-long;
-            counts = T .after .counts-long;
+            rows = counted-rows-long S σ sound r;
+            counts = counted-counts-long S σ sound r;
           };
         }
 
@@ -205,8 +201,8 @@ module _ (S : Settings) (σ : State) (sound : Sound S σ) (r : ℕ) (row-in : r 
               store = length-copied (S .w) (S .n + S .q) (copied (S .w) store (S .n + d) v) (place S σ r) (S .n + d) sent-long p-in target-in ∙ sent-long;
               forward = length-set (set (σ .forward) v empty) r d ∙ length-set (σ .forward) v empty ∙ sound .lengths .forward;
               reverse = reverse-long;
-              rows = T .after .rows-long;
-              counts = T .after .counts-long;
+              rows = counted-rows-long S σ sound r;
+              counts = counted-counts-long S σ sound r;
             };
           }
 
@@ -217,19 +213,18 @@ module _ (S : Settings) (σ : State) (sound : Sound S σ) (r : ℕ) (row-in : r 
     ousts : moves S σ r ≡ true → (d v : ℕ) → reverseOf σ d ≡ v → v < S .n → forwardOf σ v ≡ d
         → Moved S σ r store d (settled S σ r store (OverSlot (slot d) (visible v))) → Fate store (OverSlot (slot d) (visible v))
 
-  module _ (T : Tracks (S .a) (S .k) (place S σ r) (σ .rows) (σ .counts) (σ .control .spill) (σ .control .acts) (tracked S σ r))
-      (head-in : σ .control .head < S .q) (room : moves S σ r ≡ true → σ .control .passed + rise S σ r ≤ S .q)
+  module _ (head-in : σ .control .head < S .q) (room : moves S σ r ≡ true → σ .control .passed + rise S σ r ≤ S .q)
       (store : List ℕ) (long : length store ≡ (S .n + S .q) * S .w) where
     by-plan : (m : Move) → Plan S σ r m → Fate store m
     by-plan m (rests e) = stays e
     by-plan m (fills e vacant) =
-        goes e (destination S σ r) vacant (moved-to T store long (destination S σ r) (rise-to S σ r head-in (room e)) (slide S σ r head-in (room e)) (ahead-then S σ r head-in (room e)) vacant)
+        goes e (destination S σ r) vacant (moved-to store long (destination S σ r) (rise-to S σ r head-in (room e)) (slide S σ r head-in (room e)) (ahead-then S σ r head-in (room e)) vacant)
     by-plan m (evicts e full) =
         elim (sound .inverse .reverse (destination S σ r) (slide S σ r head-in (room e) .inside)) [
           | inl z ↦ absurd (full z)
           | inr c ↦
               ousts e (destination S σ r) (reverseOf σ (destination S σ r)) refl (c .0) (c .1)
-              (moved-over T store long (destination S σ r) (rise-to S σ r head-in (room e)) (slide S σ r head-in (room e)) (ahead-then S σ r head-in (room e))
+              (moved-over store long (destination S σ r) (rise-to S σ r head-in (room e)) (slide S σ r head-in (room e)) (ahead-then S σ r head-in (room e))
               (reverseOf σ (destination S σ r)) refl (c .0) (c .1))
         ]
 

@@ -1,5 +1,5 @@
 -- The pointer tables under a move: what it changes, and that they stay inverse. Assumes nothing.
-use Prim.Native.Nat.{ℕ, _+_, _<_}
+use Prim.Native.Nat.{ℕ, _+_, _<_, _≤_}
 use native.Mathlib.Omega.{arith}
 use mathlib.Core.Path.{_≡_, refl, sym, ap, _∙_}
 use mathlib.Core.Logic.{_⊎_, inl, inr, _≢_}
@@ -17,10 +17,12 @@ use Rattle.engine.specs.State.{State, lengthsOf, forwardOf, reverseOf}
 use Rattle.engine.specs.Steps.{place, left}
 use Rattle.engine.specs.Tables.{Inverse}
 
--- settings in their ranges, tables of their lengths, and inverse
+-- settings in their ranges, tables of their lengths, numbers for every bank, and inverse tables
 pub record Sound (S : Settings) (σ : State) : Type 0 where
   pub ranges : Ranges S
   pub lengths : Exact S (lengthsOf σ)
+  pub spill-long : S .b ≤ length (σ .control .spill)
+  pub acts-long : S .b ≤ length (σ .control .acts)
   pub inverse : Inverse S σ
 
 -- row r is moved to slot d: the tables that come of it

@@ -1,14 +1,15 @@
 -- Document 01: each call, for any settings, arguments and lent memory: what it leaves and what it answers.
 -- These are the definitions that the engine's promises cite and that `history` folds over.
 -- Assumes nothing.
-use Prim.Native.Nat.{ℕ}
+use Prim.Native.Nat.{ℕ, _*_}
 use mathlib.Core.Bool.{cond}
-use mathlib.Core.List.{List, []}
+use mathlib.Core.List.{List, [], _++_}
 use lib.Dec.{eqb}
-use lib.ListN.{length, replicate}
+use lib.ListN.{length, drop, replicate}
 use Rattle.geometry.specs.declared.Settings.{Settings}
 use Rattle.geometry.specs.Numbering.{physical}
 use Rattle.geometry.specs.Entry.{empty}
+use Rattle.banks.specs.Banks.{mostBanks}
 use Rattle.row_layout.specs.Bytes.{rowBytes, written}
 use Rattle.engine.specs.declared.Access.{Access}
 use Rattle.engine.specs.declared.Access.the-variants.{Refused, Done}
@@ -30,20 +31,24 @@ unfoldable pub noted : State → ℕ → State → Noted
 noted σ number effect = record { state = cond (eqb number 0) effect σ; number = number }
 
 -- 'Set-up fills both pointer tables and the tracker rows with 65535, the counts and the four fields with 0, and leaves
--- the store.'
+-- the store.' 'the record's places for banks from B on are 0 at set-up' too (document 02, Ask 5)
 abbrev pub cleared : Settings → State → State
 cleared S σ =
     record {
       store = σ .store;
       forward = replicate (S .n) empty;
       reverse = replicate (S .q) empty;
-      rows = replicate (S .k) empty;
-      counts = replicate (S .k) 0;
-      control = record { head = 0; passed = 0; spill = 0; acts = 0 };
+      rows = replicate (S .b * S .k) empty;
+      counts = replicate (S .b * S .k) 0;
+      control = record { head = 0; passed = 0; spill = replicate mostBanks 0; acts = replicate mostBanks 0 };
     }
 
 unfoldable pub setUp : Settings → State → Noted
 setUp S σ = noted σ (setUpNumber S σ) (cleared S σ)
+
+-- one number for each bank, those of the b banks in use 0; the places from b on are 'not .. changed afterwards'
+unfoldable pub zeroBelow : ℕ → List ℕ → List ℕ
+zeroBelow b numbers = replicate b 0 ++ drop b numbers
 
 -- 'tracker rows 65535, counts 0, `spill`, `acts`, `passed` 0. `head`, pointers and store remain.'
 abbrev pub ticked : Settings → State → State
@@ -52,9 +57,14 @@ ticked S σ =
       store = σ .store;
       forward = σ .forward;
       reverse = σ .reverse;
-      rows = replicate (S .k) empty;
-      counts = replicate (S .k) 0;
-      control = record { head = σ .control .head; passed = 0; spill = 0; acts = 0 };
+      rows = replicate (S .b * S .k) empty;
+      counts = replicate (S .b * S .k) 0;
+      control = record {
+        head = σ .control .head;
+        passed = 0;
+        spill = zeroBelow (S .b) (σ .control .spill);
+        acts = zeroBelow (S .b) (σ .control .acts);
+      };
     }
 
 unfoldable pub tick : Settings → State → Noted

@@ -13,6 +13,8 @@ use Rattle.geometry.specs.declared.Lengths.{Lengths}
 use Rattle.conditions.specs.Conditions.{rangesHold, limitHolds, lengthsHold}
 use Rattle.geometry.specs.Entry.{empty}
 use Rattle.scan.specs.Scan.{some}
+use Rattle.banks.specs.Portions.{portion}
+use Rattle.banks.specs.Banks.{someBank}
 use Rattle.engine.specs.State.{State, lengthsOf, trackerAt, ringOf, forwardOf}
 use Rattle.engine.specs.Steps.{place, moves, skipped, destinationFrom}
 
@@ -39,14 +41,20 @@ fitNumber S lent = settingsNumber S ▹ stops (not (lengthsHold S lent)) 3
 unfoldable pub ringUnsound : Settings → Ring → Bool
 ringUnsound S ring = leb (S .q) (ring .head) || ltb (S .q) (ring .passed)
 
--- .. acts > L, spill > acts, spill ≥ A, or some count > acts'
+-- .. acts > L, spill > acts, spill ≥ A, or some count > acts', of one bank
 unfoldable pub trackerUnsound : Settings → ℕ → ℕ → List ℕ → Bool
 trackerUnsound S spill acts counts =
     ltb (S .l) acts || ltb acts spill || leb (S .a) spill || some (λ count. ltb acts count) counts
 
+-- 'the conditions of 4 on `acts`, `spill` and counts are per bank', 'the record's places for banks from B on are .. not looked
+-- at' (document 02, Ask 5); spill, acts: by bank
+unfoldable pub trackersUnsound : Settings → List ℕ → List ℕ → List ℕ → Bool
+trackersUnsound S spill acts counts =
+    someBank (λ c. trackerUnsound S (getD spill c 0) (getD acts c 0) (portion (S .k) c counts)) (S .b)
+
 unfoldable pub controlUnsound : Settings → Control → List ℕ → Bool
 controlUnsound S control counts =
-    ringUnsound S (ringOf control) || trackerUnsound S (control .spill) (control .acts) counts
+    ringUnsound S (ringOf control) || trackersUnsound S (control .spill) (control .acts) counts
 
 -- an entry is 65535, or below `limit` and x is what the other table has for it
 unfoldable pub pointsBack : ℕ → ℕ → List ℕ → ℕ → Bool
@@ -77,7 +85,8 @@ quarantineNumber S ring forward reverse over =
     stops (ltb (S .q) (ring .passed + suc over)) 9
     ▹ stops (not (pointsBack (getD reverse d empty) (S .n) forward d)) 7
 
--- epoch: 'acts = L'; then the two rows above, if the access would quarantine its row (due)
+-- epoch: 'acts = L', where '8 looks at the bank of p' (document 02, Ask 5; acts: that bank's); then the two rows above, if the
+-- access would quarantine its row (due)
 unfoldable pub lateNumber : Settings → Ring → ℕ → List ℕ → List ℕ → ℕ → Bool → ℕ
 lateNumber S ring acts forward reverse over due =
     stops (eqb acts (S .l)) 8 ▹ cond due (quarantineNumber S ring forward reverse over) 0

@@ -2,18 +2,20 @@
 -- Assumes nothing.
 use Prim.Native.Nat.{ℕ}
 use mathlib.Core.List.{List}
-use lib.ListN.{length, getD}
+use lib.ListN.{length, getD, set}
 use Rattle.geometry.specs.declared.Settings.{Settings}
 use Rattle.geometry.specs.declared.Control.{Control}
 use Rattle.geometry.specs.declared.Ring.{Ring}
 use Rattle.geometry.specs.declared.Lengths.{Lengths}
 use Rattle.geometry.specs.Entry.{empty}
+use Rattle.banks.specs.Portions.{portion, withPortion}
+use Rattle.banks.specs.Banks.{bankOf}
 
 pub record State : Type 0 where
   pub store : List ℕ
   pub forward : List ℕ
   pub reverse : List ℕ
-  -- tracker rows and tracker counts
+  -- tracker rows and tracker counts: 'B × K entries, bank after bank' (document 02, Ask 5)
   pub rows : List ℕ
   pub counts : List ℕ
   pub control : Control
@@ -46,20 +48,42 @@ reverseOf σ s = getD (σ .reverse) s empty
 abbrev pub ringOf : Control → Ring
 ringOf control = record { head = control .head; passed = control .passed }
 
--- the control record with them
-abbrev pub controlOf : Ring → ℕ → ℕ → Control
+-- the control record with them; spill, acts: by bank
+abbrev pub controlOf : Ring → List ℕ → List ℕ → Control
 controlOf ring spill acts = record { head = ring .head; passed = ring .passed; spill = spill; acts = acts }
 
--- a tracker: its rows and counts, its spillover count, and the accepted accesses that it has counted this epoch
+-- the tracker of a bank: its rows and counts, its spillover count, and the accepted accesses that it has counted this epoch
 pub record Tracker : Type 0 where
   pub rows : List ℕ
   pub counts : List ℕ
   pub spill : ℕ
   pub acts : ℕ
 
--- the tracker that serves physical row p; there is one, which serves all
+-- 'The paper keeps a tracker for each bank'; that of bank c
+abbrev pub trackerOf : Settings → State → ℕ → Tracker
+trackerOf S σ c =
+    record {
+      rows = portion (S .k) c (σ .rows);
+      counts = portion (S .k) c (σ .counts);
+      spill = getD (σ .control .spill) c 0;
+      acts = getD (σ .control .acts) c 0;
+    }
+
+-- the tracker that serves physical row p
 abbrev pub trackerAt : Settings → State → ℕ → Tracker
-trackerAt S σ p = record { rows = σ .rows; counts = σ .counts; spill = σ .control .spill; acts = σ .control .acts }
+trackerAt S σ p = trackerOf S σ (bankOf S p)
+
+-- all that is lent, with another tracker of bank c
+abbrev pub withTracker : Settings → State → ℕ → Tracker → State
+withTracker S σ c t =
+    record {
+      store = σ .store;
+      forward = σ .forward;
+      reverse = σ .reverse;
+      rows = withPortion (S .k) c (σ .rows) (t .rows);
+      counts = withPortion (S .k) c (σ .counts) (t .counts);
+      control = controlOf (ringOf (σ .control)) (set (σ .control .spill) c (t .spill)) (set (σ .control .acts) c (t .acts));
+    }
 
 -- where the rows are: the store, the pointer tables, `head` and `passed`, all that step 4 reads and writes
 pub record Storage : Type 0 where

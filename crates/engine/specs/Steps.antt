@@ -1,5 +1,5 @@
 -- Document 01, 'One access': what an accepted read or write of row r does, step by step; with document 02, Ask 4, on where a
--- row is moved to.
+-- row is moved to, and Ask 5, on banks.
 -- Assumes nothing.
 use Prim.Native.Nat.{ℕ, zero, suc, _+_, _-_, _%_}
 use mathlib.Core.Bool.{Bool, cond, _||_}
@@ -12,10 +12,11 @@ use Rattle.geometry.specs.Numbering.{visible, slot, homeRow, slotRow}
 use Rattle.geometry.specs.Entry.{empty}
 use Rattle.tracking.specs.Track.{Tracked, track, isDue}
 use Rattle.tracking.specs.Worn.{worn}
+use Rattle.banks.specs.Banks.{bankOf}
 use Rattle.row_layout.specs.Bytes.{copied}
 use Rattle.engine.specs.declared.Move.{Move}
 use Rattle.engine.specs.declared.Move.the-variants.{Stayed, ToSlot, OverSlot}
-use Rattle.engine.specs.State.{State, Tracker, Storage, trackerAt, storageOf, ringOf, controlOf, forwardOf, reverseOf}
+use Rattle.engine.specs.State.{State, Tracker, Storage, trackerAt, withTracker, storageOf, ringOf, controlOf, forwardOf, reverseOf}
 
 -- 1. 'Place p: slot s's physical row if the row's forward entry is s, else its home.'
 abbrev pub placeBy : Settings → ℕ → ℕ → ℕ
@@ -24,23 +25,33 @@ placeBy S entry r = cond (eqb entry empty) (homeRow r) (slotRow S entry)
 abbrev pub place : Settings → State → ℕ → ℕ
 place S σ r = placeBy S (forwardOf σ r) r
 
--- 2. the tracker after it, and the estimate
+-- 2. the tracker after it, and the estimate; 'Step 2 looks only at the entries of p's bank' (document 02, Ask 5)
 abbrev pub tracked : Settings → State → ℕ → Tracked
 tracked S σ r =
     let p : ℕ = place S σ r in
     let t : Tracker = trackerAt S σ p in
     track p (t .rows) (t .counts) (t .spill)
 
+-- as the tracker of p's bank is left, with 3: '`acts` rises by 1'
+abbrev pub trackerAfter : Settings → State → ℕ → Tracker
+trackerAfter S σ r =
+    let t : Tracked = tracked S σ r in
+    record { rows = t .rows; counts = t .counts; spill = t .spill; acts = suc (trackerAt S σ (place S σ r) .acts) }
+
+-- all that is lent with it
+abbrev pub counted : Settings → State → ℕ → State
+counted S σ r = withTracker S σ (bankOf S (place S σ r)) (trackerAfter S σ r)
+
 -- 4. 'If there is an estimate and it is a multiple of A, the row is quarantined.'
 abbrev pub moves : Settings → State → ℕ → Bool
 moves S σ r = isDue (S .a) ((tracked S σ r) .estimate)
 
 -- 'The head shall pass every slot whose physical row has, in the lowest entry naming it, a tracker count of A or more after
--- step 2, as well as the moving row's own slot.' (document 02, Ask 4) Such a slot is called skipped here: `passed` counts the
--- destinations too.
+-- step 2, as well as the moving row's own slot.' (document 02, Ask 4); it looks 'only at those of the slot's bank' (Ask 5). Such
+-- a slot is called skipped here: `passed` counts the destinations too.
 abbrev pub skips : Settings → State → ℕ → ℕ → Bool
 skips S σ r s =
-    let t : Tracked = tracked S σ r in
+    let t : Tracker = trackerAt S (counted S σ r) (slotRow S s) in
     eqb (forwardOf σ r) s || worn (S .a) (t .rows) (t .counts) (slotRow S s)
 
 -- of k slots from s on, round q, how many are skipped before the first that is not; all k where there is none such
@@ -126,11 +137,10 @@ relocated S r p m was =
       ring = record { head = headAfter S (was .ring .head) m; passed = passedAfter S (was .ring) m };
     }
 
--- by all four, with the move that was decided, and 3: '`acts` rises by 1' (store: with the bytes written at p, if it is a
--- write)
+-- by all four, with the move that was decided (store: with the bytes written at p, if it is a write)
 abbrev pub settled : Settings → State → ℕ → List ℕ → Move → State
 settled S σ r store m =
-    let t : Tracked = tracked S σ r in
+    let t : State = counted S σ r in
     let now : Storage = relocated S r (place S σ r) m (storageOf store (σ .forward) (σ .reverse) (ringOf (σ .control))) in
     record {
       store = now .store;
@@ -138,7 +148,7 @@ settled S σ r store m =
       reverse = now .reverse;
       rows = t .rows;
       counts = t .counts;
-      control = controlOf (now .ring) (t .spill) (suc (σ .control .acts));
+      control = controlOf (now .ring) (t .control .spill) (t .control .acts);
     }
 
 -- all that is lent after an accepted access

@@ -14,33 +14,35 @@ pub struct Settings {
     pub q: u32,
     // bytes in a row
     pub w: u32,
-    // tracker entries
+    // tracker entries of a bank
     pub k: u32,
     // threshold
     pub a: u32,
-    // accesses allowed per epoch
+    // accesses allowed per epoch and bank
     pub l: u32,
+    // banks
+    pub b: u32,
 }
 
-// The control record.
+// The control record. Its places for banks from B on are 0 at set-up, and not looked at or changed afterwards.
 #[repr(C)]
 pub struct Control {
     // next slot
     pub head: u32,
     // slots the head has gone by this epoch
     pub passed: u32,
-    // the tracker's spillover count
-    pub spill: u32,
-    // accepted accesses this epoch
-    pub acts: u32,
+    // for each bank, its tracker's spillover count
+    pub spill: [u32; 16],
+    // for each bank, its accepted accesses this epoch
+    pub acts: [u32; 16],
 }
 
 // The control record at set-up.
 pub const NEW: Control = Control {
     head: 0,
     passed: 0,
-    spill: 0,
-    acts: 0,
+    spill: [0; 16],
+    acts: [0; 16],
 };
 
 // Where the quarantine stands.

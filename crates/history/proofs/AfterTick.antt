@@ -1,22 +1,21 @@
 -- A good access is accepted as the first call after a tick, in every state with sound tables. Assumes nothing.
-use Prim.Native.Nat.{ℕ, _+_, _<_, _≤_, zero-le}
-use native.Mathlib.Nat.{le-of-eq}
+use Prim.Native.Nat.{ℕ, _+_, _*_, _<_, _≤_}
 use native.Mathlib.Omega.{arith}
 use mathlib.Core.Path.{_≡_, refl, sym, _∙_, subst}
 use mathlib.Core.Logic.{inl, inr}
 use mathlib.Core.Bool.{Bool, true, false}
-use lib.ListN.{getD-replicate, length-replicate}
 use Rattle.geometry.specs.declared.Settings.{Settings}
 use Rattle.geometry.proofs.Cases.{lt?}
 use Rattle.tracking.proofs.View.{quotients-new}
-use Rattle.conditions.proofs.Facts.{ranges-facts, lengths-facts, lengths-hold}
-use Rattle.engine.specs.State.{State, lengthsOf}
+use Rattle.conditions.proofs.Facts.{ranges-facts, lengths-facts}
+use Rattle.engine.specs.State.{State, Tracker, lengthsOf, trackerAt}
 use Rattle.engine.specs.Steps.{place, moves, destination, rise}
-use Rattle.engine.specs.Ladder.{tickNumber, accessNumber}
+use Rattle.engine.specs.Ladder.{controlUnsound, tickNumber, accessNumber}
 use Rattle.engine.specs.Calls as calls
 use Rattle.engine.specs.Tables.{Inverse}
-use Rattle.engine.proofs.Facts.{Fit, steady, steady-passes, tick-facts, row-holds, slot-holds, wanting, accepts}
+use Rattle.engine.proofs.Facts.{Fit, steady, tick-facts, row-holds, slot-holds, wanting, accepts}
 use Rattle.engine.proofs.Pointers.{Sound}
+use Rattle.engine.proofs.Trackers.{tracker-new}
 use Rattle.engine.proofs.Moves.{destination-in}
 use Rattle.history.specs.Tally.{Tally}
 use Rattle.history.specs.Run.{Call, access, tick, inspect, rowOf}
@@ -24,14 +23,14 @@ use Rattle.history.specs.Demand2.{GoodAccess, NineIsGood, AcceptedAfterT
 use Rattle.history.proofs.Groups.{spanOff, span-good, span-in, ladder, step-number, at-9, accepted-step}
 use Rattle.history.proofs.Invariant.{Inv}
 use Rattle.history.proofs.Access.{wanting-few}
-use Rattle.history.proofs.Calls.{inv-new, sound-ticked}
+use Rattle.history.proofs.Calls.{inv-new, sound-ticked, tick-passed}
 
 module _ (S : Settings) (σ : State) (inverse : Inverse S σ) (tick-0 : tickNumber S σ ≡ 0) where
   fit : Fit S σ
   fit = tick-facts S σ tick-0 .0
 
   sound : Sound S (calls.ticked S σ)
-  sound = sound-ticked (record { ranges = ranges-facts S (fit .ranges); lengths = lengths-facts S (lengthsOf σ) (fit .lengths); inverse = inverse })
+  sound = sound-ticked (ranges-facts S (fit .ranges)) (lengths-facts S (lengthsOf σ) (fit .lengths)) inverse
 
   head-in : σ .control .head < S .q
   head-in = steady S σ (tick-facts S σ tick-0 .1) .head-in
@@ -44,6 +43,15 @@ module _ (S : Settings) (σ : State) (inverse : Inverse S σ) (tick-0 : tickNumb
   unfolding asPlaced
   begun = inv-new S σ asPlaced (fit .ranges) (fit .limit) sound head-in (λ x b. refl)
 
+  -- every bank has accesses left
+  more-then : (r : ℕ) → trackerAt S (calls.ticked S σ) (place S (calls.ticked S σ) r) .acts < S .l
+  more-then r =
+      subst (λ (t : Tracker). t .acts < S .l) (sym (tracker-new S σ (place S (calls.ticked S σ) r) (sound .ranges .b-low))) (sound .ranges .l-low)
+
+  -- 1 to 4 are passed again
+  passed-then : Fit S (calls.ticked S σ) × (controlUnsound S ((calls.ticked S σ) .control) ((calls.ticked S σ) .counts) ≡ false)
+  passed-then = tick-facts S (calls.ticked S σ) (tick-passed S (calls.ticked S σ) asPlaced asPlaced begun)
+
   -- there is room for a move
   has-room : (r : ℕ) → r < S .n → moves S (calls.ticked S σ) r ≡ true → 0 + rise S (calls.ticked S σ) r ≤ S .q
   has-room r row-in m =
@@ -51,8 +59,8 @@ module _ (S : Settings) (σ : State) (inverse : Inverse S σ) (tick-0 : tickNumb
         | inl full ↦
             absurd (omega (
               arith,
-              wanting-few S (calls.ticked S σ) asPlaced asPlaced begun r row-in (sound .ranges .l-low) m full,
-              quotients-new (S .a) (S .k),
+              wanting-few S (calls.ticked S σ) asPlaced asPlaced begun r row-in (more-then r) m full,
+              quotients-new (S .a) (S .b * S .k),
               sound .ranges .q-low,
             ))
         | inr room ↦ room
@@ -64,14 +72,12 @@ module _ (S : Settings) (σ : State) (inverse : Inverse S σ) (tick-0 : tickNumb
       accepts S (calls.ticked S σ) r off
       (record {
         reached = record {
-          fit = record { ranges = fit .ranges; limit = fit .limit; lengths = lengths-hold S (lengthsOf (calls.ticked S σ)) (sound .lengths) };
-          control = steady-passes S (calls.ticked S σ)
-              (record { head-in = head-in; passed-in = zero-le; acts-in = zero-le; spill-in = zero-le; spill-below = sound .ranges .a-low })
-              (λ i b. le-of-eq (getD-replicate (S .k) i 0 0 (subst (λ (m : ℕ). i < m) (length-replicate (S .k) 0) b)));
+          fit = passed-then .0;
+          control = passed-then .1;
           row-in = row-in;
           span-in = span-in;
           pointers = row-holds S (calls.ticked S σ) r (sound .inverse .forward r row-in);
-          more = sound .ranges .l-low;
+          more = more-then r;
         };
         room = has-room r row-in;
         target = λ m. slot-holds S (calls.ticked S σ) (destination S (calls.ticked S σ) r)

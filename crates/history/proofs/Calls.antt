@@ -1,7 +1,7 @@
 -- One call: it carries the invariant on, and what it answers. Assumes nothing.
 use Prim.Native.Nat.{ℕ, _+_, _*_, _/_, _<_, _≤_, zero-le}
 use native.Mathlib.Omega.{arith}
-use mathlib.Core.Path.{_≡_, refl, sym, _∙_}
+use mathlib.Core.Path.{_≡_, refl, sym, _∙_, subst}
 use mathlib.Core.Logic.{_⊎_, inl, inr, _≢_}
 use mathlib.Core.Bool.{Bool, true, false, true≢false}
 use lib.Dec.{eqb}
@@ -10,16 +10,18 @@ use borrow.Author.Tests.{eq-eqb, ne-eqb, lt-leb}
 use Rattle.geometry.specs.declared.Settings.{Settings}
 use Rattle.conditions.specs.Conditions.{rangesHold, limitHolds}
 use Rattle.geometry.specs.Entry.{empty}
-use Rattle.conditions.proofs.Facts.{limit-fact, lengths-hold}
+use Rattle.conditions.proofs.Facts.{Ranges, Exact, limit-fact, lengths-hold}
 use Rattle.tracking.proofs.View.{counting-new, estimate-new, quotients-new}
-use Rattle.tracking.proofs.View.{quotients-few, spill-within, spill-below, count-within}
+use Rattle.tracking.proofs.View.{spill-within, spill-below, count-within}
+use Rattle.banks.proofs.Banks.{bank-itself}
 use Rattle.row_layout.proofs.Laws.{length-written}
-use Rattle.engine.specs.State.{State, lengthsOf, trackerAt, ringOf, forwardOf, reverseOf}
+use Rattle.engine.specs.State.{State, Tracker, lengthsOf, trackerOf, trackerAt, ringOf, forwardOf, reverseOf}
 use Rattle.engine.specs.Steps.{place, moves, skipped, destination, move, stateAfter}
 use Rattle.engine.specs.Ladder.{pointsBack, rowNumber, tickNumber, inspectNumber, accessNumber}
 use Rattle.engine.specs.Calls as calls
+use Rattle.engine.specs.Tables.{Inverse}
 use Rattle.engine.proofs.Rungs.{passes, ladder-all}
-use Rattle.engine.proofs.Facts.{steady-passes, tick-passes, row-all, late-all, row-passes, row-holds, slot-holds}
+use Rattle.engine.proofs.Facts.{Trusted, none-above-all, steady-passes, tick-passes, row-all, late-all, row-passes, row-holds, slot-holds}
 use Rattle.engine.proofs.Facts.{accepted, wanting}
 use Rattle.engine.proofs.Window.{gone-none}
 use Rattle.engine.proofs.Ahead.{ahead-none}
@@ -31,7 +33,8 @@ use Rattle.history.specs.Run.{Step, step, eventOf, OfAccepted, reportOf}
 use Rattle.history.specs.Demand3.{Bounded, AnswersPlace}
 use Rattle.history.proofs.Groups.{spanOff, storeBy, span-good, ladder, at-9, step-cases, of-accepted}
 use Rattle.history.proofs.Openings.{here, home-bound, home-new, slot-bound, slot-new}
-use Rattle.history.proofs.Invariant.{CountingAt, wornSlot, Inv}
+use Rattle.engine.proofs.Trackers.{CountingBy, estimateFor, estimate, newTracker, zero-long, tracker-new, quotients-most}
+use Rattle.history.proofs.Invariant.{wornSlot, Inv}
 use Rattle.history.proofs.Access.{tallyAfter, inv-access, never-wanting}
 
 -- ---- a new epoch: tables as they stand, a tracker as set up, nothing gone by
@@ -41,41 +44,47 @@ pub inv-new : (S : Settings) (σ : State) (τ : tally.Tally) → rangesHold S �
     → ((x : ℕ) → x < S .n → τ .place x ≡ place S σ x) → Inv S (calls.ticked S σ) τ τ
 inv-new S σ τ ranges limit sound head-in places =
     let pos : 0 < S .a = sound .ranges .a-low in
+    -- what holds of a new tracker holds of each
+    let new : (p : ℕ) (P : Tracker → Type 0) → P (newTracker (S .k)) → P (trackerAt S (calls.ticked S σ) p) =
+    λ p P h. subst P (sym (tracker-new S σ p (sound .ranges .b-low))) h in
+    let none : (p : ℕ) → estimate S (calls.ticked S σ) p ≡ 0 = λ p. new p (λ t. estimateFor t p ≡ 0) (estimate-new (S .k) p) in
     record {
       ranges = ranges;
       limit = limit;
       sound = sound;
       head-in = head-in;
       passed-in = zero-le;
-      acts-in = λ p. zero-le;
-      counting = λ p. counting-new (S .k);
-      quarantines = omega (arith, quotients-new (S .a) (S .k));
+      acts-in = λ p. new p (λ t. t .acts ≤ S .l) zero-le;
+      counting = λ p. new p (CountingBy (S .k)) (counting-new (S .k));
+      quarantines = omega (arith, quotients-new (S .a) (S .b * S .k));
       passed-few =
-          omega (arith, ahead-none (S .q) (σ .control .head) 0 (wornSlot S (calls.ticked S σ)) (λ s b. rw (estimate-new (S .k) (S .n + s)) (lt-leb (S .a) 0 pos)));
+          omega (arith, ahead-none (S .q) (σ .control .head) 0 (wornSlot S (calls.ticked S σ)) (λ s b. rw (none (S .n + s)) (lt-leb (S .a) 0 pos)));
       places = places;
-      homes = λ x b. rw (estimate-new (S .k) x) (elim (sound .inverse .forward x b) [
+      homes = λ x b. rw (none x) (elim (sound .inverse .forward x b) [
         | inl e ↦ rw (eq-eqb (forwardOf σ x) empty e) (here (omega arith) pos)
         | inr c ↦
             rw (gone-none (S .q) (σ .control .head) (forwardOf σ x) (c .0))
             (home-new (eqb (forwardOf σ x) empty) (τ .openings x) pos)
       ]);
       slots = λ s b.
-          rw (estimate-new (S .k) (S .n + s), gone-none (S .q) (σ .control .head) s b)
+          rw (none (S .n + s), gone-none (S .q) (σ .control .head) s b)
           (slot-new (eqb (reverseOf σ s) empty) (τ .openings (S .n + s)) pos);
     }
 
-pub sound-ticked : {S : Settings} {σ : State} → Sound S σ → Sound S (calls.ticked S σ)
-sound-ticked {S} s =
+pub sound-ticked : {S : Settings} {σ : State} → Ranges S → Exact S (lengthsOf σ) → Inverse S σ → Sound S (calls.ticked S σ)
+sound-ticked {S} {σ} ranges lengths inverse =
     record {
-      ranges = s .ranges;
+      ranges = ranges;
       lengths = record {
-        store = s .lengths .store;
-        forward = s .lengths .forward;
-        reverse = s .lengths .reverse;
-        rows = length-replicate (S .k) empty;
-        counts = length-replicate (S .k) 0;
+        store = lengths .store;
+        forward = lengths .forward;
+        reverse = lengths .reverse;
+        rows = length-replicate (S .b * S .k) empty;
+        counts = length-replicate (S .b * S .k) 0;
       };
-      inverse = record { forward = s .inverse .forward; reverse = s .inverse .reverse };
+      spill-long = zero-long (S .b) (σ .control .spill);
+      acts-long = zero-long (S .b) (σ .control .acts);
+      inverse = record { forward = inverse .forward; reverse = inverse .reverse };
     }
 
 module _ (S : Settings) (σ : State) (τ₀ τ : tally.Tally) (I : Inv S σ τ₀ τ) where
@@ -109,7 +118,7 @@ module _ (S : Settings) (σ : State) (τ₀ τ : tally.Tally) (I : Inv S σ τ�
       step-cases S σ Carried
       (λ c n. rw (ne-eqb (ladder S σ c) 0 n) (inr (refl, I)))
       (λ a z. inr (refl, inv-accepted a z))
-      (λ z. inl (refl, I, inv-new S σ τ (I .ranges) (I .limit) (sound-ticked (I .sound)) (I .head-in) (I .places)))
+      (λ z. inl (refl, I, inv-new S σ τ (I .ranges) (I .limit) (sound-ticked (I .sound .ranges) (I .sound .lengths) (I .sound .inverse)) (I .head-in) (I .places)))
       (λ r z. inr (refl, I))
 
   -- in either case the invariant holds after it
@@ -119,23 +128,19 @@ module _ (S : Settings) (σ : State) (τ₀ τ : tally.Tally) (I : Inv S σ τ�
 
   -- ---- the figures of an epoch that ends here, or runs on
 
-  -- one tracker serves every place: place 0's is the whole
-  whole : CountingAt S σ 0
-  whole = I .counting 0
-
   pub bounded : Bounded S (record { first = τ₀; last = τ })
   bounded =
       record {
         homes = λ r b. omega (arith, home-bound (I .homes r b));
         slots = λ s b. omega (arith, slot-bound (I .slots s b));
         quarantines =
-            omega (arith, I .quarantines, quotients-few whole (S .a) (S .l) (I .sound .ranges .a-low) (I .acts-in 0));
+            omega (arith, I .quarantines, quotients-most S σ (I .sound .ranges) (I .sound .lengths .counts) (I .counting) (I .acts-in));
       }
 
   -- ---- what is answered
 
   -- with slots enough it is not 9
-  pub not-9 : 2 * (S .l / S .a) ≤ S .q → (c : Call) → (step S σ c) .answer .number ≢ 9
+  pub not-9 : 2 * (S .b * (S .l / S .a)) ≤ S .q → (c : Call) → (step S σ c) .answer .number ≢ 9
   not-9 enough =
       at-9 S σ (λ c. ⊥) (λ a e.
       let W = wanting S σ _ _ e in
@@ -147,19 +152,29 @@ module _ (S : Settings) (σ : State) (τ₀ τ : tally.Tally) (I : Inv S σ τ�
 
   -- ---- which numbers can be answered
 
-  tick-0 : tickNumber S σ ≡ 0
-  tick-0 =
+  -- 4 finds nothing in the tracker that serves a physical row
+  trusted-at : (p : ℕ) → Trusted S (trackerAt S σ p)
+  trusted-at p =
+      let t : Tracker = trackerAt S σ p in
+      let C : CountingBy (S .k) t = I .counting p in
+      record {
+        acts-in = I .acts-in p;
+        spill-in = spill-within C;
+        spill-below = spill-below C (S .a) (S .l) (I .acts-in p) (limit-fact S (I .limit));
+        none-above = none-above-all (t .acts) (t .counts) (count-within C);
+      }
+
+  -- so a tick is accepted
+  pub tick-passed : tickNumber S σ ≡ 0
+  tick-passed =
       tick-passes S σ
       (record { ranges = I .ranges; limit = I .limit; lengths = lengths-hold S (lengthsOf σ) (I .sound .lengths) })
       (steady-passes S σ
       (record {
         head-in = I .head-in;
         passed-in = I .passed-in;
-        acts-in = I .acts-in 0;
-        spill-in = spill-within whole;
-        spill-below = spill-below whole (S .a) (S .l) (I .acts-in 0) (limit-fact S (I .limit));
-      })
-      (count-within whole))
+        banks = λ c b. subst (λ (d : ℕ). Trusted S (trackerOf S σ d)) (bank-itself S c b) (trusted-at c);
+      }))
 
   -- a row's pointers hold
   row-sure : (r : ℕ) → r < S .n → pointsBack (forwardOf σ r) (S .q) (σ .reverse) r ≡ true
@@ -168,7 +183,7 @@ module _ (S : Settings) (σ : State) (τ₀ τ : tally.Tally) (I : Inv S σ τ�
   -- inspect is refused for no row
   pub inspect-0 : (r : ℕ) → r < S .n → inspectNumber S σ r ≡ 0
   unfolding inspectNumber
-  inspect-0 r row-in = passes tick-0 (row-passes S (σ .reverse) (forwardOf σ r) r false row-in refl (row-sure r row-in))
+  inspect-0 r row-in = passes tick-passed (row-passes S (σ .reverse) (forwardOf σ r) r false row-in refl (row-sure r row-in))
 
   -- P holds of 0, 5, 6, 8 and 9
   module _ (P : ℕ → Type 0) (p0 : P 0) (p5 : P 5) (p6 : P 6) (p8 : P 8) (p9 : P 9) where
@@ -180,7 +195,7 @@ module _ (S : Settings) (σ : State) (τ₀ τ : tally.Tally) (I : Inv S σ τ�
     usual-access : (r : ℕ) (off : Bool) → P (accessNumber S σ r off)
     unfolding accessNumber
     usual-access r off =
-        ladder-all P _ _ (rw tick-0 p0) (λ e.
+        ladder-all P _ _ (rw tick-passed p0) (λ e.
         ladder-all P _ _ (usual-row r off) (λ f.
         late-all P p0 p8 p9 S (ringOf (σ .control)) (trackerAt S σ (place S σ r) .acts) (σ .forward) (σ .reverse)
         (skipped S σ r) (moves S σ r) (λ m k.
@@ -190,5 +205,5 @@ module _ (S : Settings) (σ : State) (τ₀ τ : tally.Tally) (I : Inv S σ τ�
     pub usual : (c : Call) → P (ladder S σ c)
     unfolding inspectNumber
     usual (access a) = usual-access (rowOf a) (spanOff S a)
-    usual tick = rw tick-0 p0
-    usual (inspect r) = ladder-all P _ _ (rw tick-0 p0) (λ e. usual-row r false)
+    usual tick = rw tick-passed p0
+    usual (inspect r) = ladder-all P _ _ (rw tick-passed p0) (λ e. usual-row r false)

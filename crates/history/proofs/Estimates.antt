@@ -12,23 +12,25 @@ use Rattle.geometry.specs.declared.Settings.{Settings}
 use Rattle.geometry.specs.Entry.{empty}
 use Rattle.geometry.proofs.Cases.{eq?}
 use Rattle.geometry.proofs.Tests.{and-left, and-right}
-use Rattle.conditions.proofs.Facts.{limit-fact}
+use Rattle.conditions.proofs.Facts.{Ranges, limit-fact}
 use Rattle.tracking.specs.Track.{isDue}
-use Rattle.tracking.proofs.View.{Tracks, estimate-new, spill-below}
+use Rattle.tracking.proofs.View.{estimate-new, spill-below}
 use Rattle.engine.specs.declared.Move.{Move}
 use Rattle.engine.specs.State.{State, Tracker, trackerAt}
 use Rattle.engine.specs.Answer.{slotMovedTo}
-use Rattle.engine.specs.Steps.{place, tracked, moves, destination, move, settled}
+use Rattle.engine.specs.Steps.{place, tracked, trackerAfter, counted, moves, destination, move, settled}
 use Rattle.engine.specs.Calls as calls
 use Rattle.engine.proofs.Facts.{accepted}
 use Rattle.engine.proofs.Pointers.{marks-none, place-in}
+use Rattle.engine.proofs.Trackers.{estimateFor, estimate, TracksAt, tracker-same, tracker-new, cleared-new}
+use Rattle.engine.proofs.Counting.{Estimated, estimated}
 use Rattle.engine.proofs.Moves.{tracks-access, Plan, rests, fills, evicts, plan, destination-in}
 use Rattle.history.specs.Tally as tally
 use Rattle.history.specs.Tally.{hit}
 use Rattle.history.specs.Run.{Call, access, rowOf, Answer, Event, step, eventOf, OfAccepted}
 use Rattle.history.specs.Estimates.{Observed, unobserved, observeAccess, observe, observed, Conclusions, Concludes, Estimates}
 use Rattle.history.proofs.Groups.{acceptedStep, refusedStep, ladder, storeBy, not-accepted, step-cases}
-use Rattle.history.proofs.Invariant.{Inv, estimate}
+use Rattle.history.proofs.Invariant.{Inv}
 use Rattle.history.proofs.Openings.{hit-same, hit-other}
 use Rattle.history.proofs.Calls.{carried-on}
 use Rattle.history.proofs.Chain.{Chain, end, call, idle, chain-of, idle-observe}
@@ -49,9 +51,10 @@ Watched S σ o = (p : ℕ) → p ≢ empty
 
 -- ---- a new epoch
 
-watched-new : (S : Settings) (σ : State) → Watched S (calls.ticked S σ) unobserved
-watched-new S σ p n =
-    rw (estimate-new (S .k) p) (record { most = omega arith; least = omega arith; last = omega arith; near = inl refl })
+watched-new : (S : Settings) → 1 ≤ S .b → (σ : State) → Watched S (calls.ticked S σ) unobserved
+watched-new S some σ p n =
+    subst (λ (t : Tracker). Counted (S .a) (estimateFor t p) (t .spill) 0 0 0) (sym (tracker-new S σ p some))
+    (rw (estimate-new (S .k) p) (record { most = omega arith; least = omega arith; last = omega arith; near = inl refl }))
 
 -- ---- an accepted access
 
@@ -85,9 +88,15 @@ module _ (S : Settings) (σ : State) (τ₀ τ : tally.Tally) (I : Inv S σ τ�
     real = marks-none S (I .sound .ranges) p (place-in S σ (I .sound) r row-in)
 
     -- what step 2 does to the estimates
-    K : let t : Tracker = trackerAt S σ p in
-        Tracks (S .a) (S .k) p (t .rows) (t .counts) (t .spill) (t .acts) (tracked S σ r)
+    K : TracksAt S σ r
     K = tracks-access S σ (I .sound) r row-in (limit-fact S (I .limit)) more (I .counting p)
+
+    E : Estimated S σ (counted S σ r) p
+    E = estimated S σ (I .sound) r K
+
+    -- the tracker of its bank after it
+    here : trackerAt S (counted S σ r) p ≡ trackerAfter S σ r
+    here = tracker-same S σ (I .sound) r p refl
 
     below : (tracked S σ r) .spill < S .a
     below = spill-below (K .after) (S .a) (S .l) more (limit-fact S (I .limit))
@@ -114,26 +123,26 @@ module _ (S : Settings) (σ : State) (τ₀ τ : tally.Tally) (I : Inv S σ τ�
               Counted (S .a) (estimate S after y) ((trackerAt S after y) .spill) (seen .accesses y) (seen .latest y) (seen .since y))
               (sym e)
               (record {
-                most = omega (arith, was .most, K .same);
-                least = omega (arith, was .least, K .same, K .spill-grows);
+                most = omega (arith, was .most, E .same);
+                least = omega (arith, was .least, E .same, E .spill-grows p);
                 last = elim (eq? given 0) [
-                  | inl z ↦ rw (eq-eqb p p refl, eq-eqb given 0 z) (omega (arith, was .last, K .same))
-                  | inr g ↦ rw (eq-eqb p p refl, ne-eqb given 0 g) (omega (arith, given-is g, K .same))
+                  | inl z ↦ rw (eq-eqb p p refl, eq-eqb given 0 z) (omega (arith, was .last, E .same))
+                  | inr g ↦ rw (eq-eqb p p refl, ne-eqb given 0 g) (omega (arith, given-is g, E .same))
                 ];
                 near = elim (eq? given 0) [
-                  | inl z ↦ inr (omega (arith, spill-is z, K .same, below))
-                  | inr g ↦ inl (rw (eq-eqb p p refl, ne-eqb given 0 g) (K .same ∙ sym (given-is g)))
+                  | inl z ↦ inr (omega (arith, spill-is z, E .same, below))
+                  | inr g ↦ inl (rw (eq-eqb p p refl, ne-eqb given 0 g) (E .same ∙ sym (given-is g)))
                 ];
               })
           | inr k ↦
               let was = W x n in
               let none : hit p x ≡ 0 = hit-other p x k in
-              let up = K .other x k n .0 in
+              let up = E .other x k n .0 in
               rw (ne-eqb x p k) (record {
                 most = omega (arith, was .most);
-                least = elim (K .drifts x k n) [ inl g ↦ omega (arith, was .least, g, K .spill-grows) | inr g ↦ omega (arith, g) ];
+                least = elim (E .drifts x k n) [ inl g ↦ omega (arith, was .least, g, E .spill-grows x) | inr g ↦ omega (arith, g) ];
                 last = omega (arith, was .last);
-                near = elim (K .other x k n .1) [
+                near = elim (E .other x k n .1) [
                   | inl g ↦ elim (was .near) [ inl q ↦ inl (g ∙ q) | inr q ↦ inr (omega (arith, g)) ]
                   | inr g ↦ inr g
                 ];
@@ -179,7 +188,7 @@ module _ (S : Settings) (σ : State) (τ₀ τ : tally.Tally) (I : Inv S σ τ�
       (λ a z.
       let R = accepted S σ _ _ z .reached in
       watched-access (rowOf a) (R .row-in) (R .more) (storeBy S σ a) (move S σ (rowOf a)))
-      (λ z. watched-new S σ)
+      (λ z. watched-new S (I .sound .ranges .b-low) σ)
       (λ r z. W)
 
   concluded-step : (c : Call) → OfAccepted (Concludes S o ((step S σ c) .state)) (eventOf c (step S σ c))
@@ -188,7 +197,11 @@ module _ (S : Settings) (σ : State) (τ₀ τ : tally.Tally) (I : Inv S σ τ�
       (λ c n. not-accepted (Concludes S o σ) (eventOf c (refusedStep S σ c)) n)
       (λ a z w.
       let R = accepted S σ _ _ z .reached in
-      concluded (rowOf a) (R .row-in) (R .more) (storeBy S σ a) ((acceptedStep S σ (access a)) .answer) refl refl)
+      let answer : Answer = (acceptedStep S σ (access a)) .answer in
+      let p : ℕ = place S σ (rowOf a) in
+      subst (λ (t : Tracker). Conclusions S (suc (o .accesses p)) (o .latest p) (o .since p) (t .spill) answer)
+      (sym (here (rowOf a) (R .row-in) (R .more) (storeBy S σ a)))
+      (concluded (rowOf a) (R .row-in) (R .more) (storeBy S σ a) answer refl refl))
       (λ z. tt)
       (λ r z. tt)
 
@@ -209,7 +222,8 @@ pub concludes : (S : Settings) (blank : State) → (calls.setUp S blank) .number
     → OfAccepted (Concludes S (observed unobserved es) ((step S σ c) .state)) (eventOf c (step S σ c))
 concludes S blank z {σ} {es} chain c =
     let I = inv-set-up S blank z in
-    let begun : Watched S ((calls.setUp S blank) .state) unobserved = rw (set-up-state S blank z) (watched-new S (calls.cleared S blank)) in
+    let R : Ranges S = I .sound .ranges in
+    let begun : Watched S ((calls.setUp S blank) .state) unobserved = rw (set-up-state S blank z) (subst (λ (σ′ : State). Watched S σ′ unobserved) (cleared-new S blank (R .b-high)) (watched-new S (R .b-low) (calls.cleared S blank))) in
     let J = inv-chain S chain tally.start tally.start I in
     concluded-step S σ (J .0) (J .1) (J .2) (observed unobserved es) (watched-chain S chain tally.start tally.start I unobserved begun) c
 

@@ -1,7 +1,7 @@
 -- Every list of events after set-up: demand 3, and demand 2's tables and numbers. Assumes nothing.
-use Prim.Native.Nat.{ℕ, _<_}
+use Prim.Native.Nat.{ℕ, _*_, _<_}
 use native.Mathlib.Omega.{arith}
-use mathlib.Core.Path.{_≡_, refl}
+use mathlib.Core.Path.{_≡_, refl, subst}
 use mathlib.Core.Logic.{inl, inr}
 use mathlib.Core.List.{List, [], _∷_, map}
 use lib.ListN.{getD-replicate, length-replicate}
@@ -13,13 +13,14 @@ use Rattle.engine.specs.State.{State, lengthsOf, forwardOf}
 use Rattle.engine.specs.Ladder.{setUpNumber}
 use Rattle.engine.specs.Calls as calls
 use Rattle.engine.proofs.Facts.{Fit, fit}
+use Rattle.engine.proofs.Trackers.{cleared-new}
 use Rattle.history.specs.Run.{Call, Event, step, eventOf, events, reportOf, Each, OneOf}
 use Rattle.history.specs.Tally as tally
 use Rattle.history.specs.Demand2.{TablesInverse, Usual, OnlyUsual}
 use Rattle.history.specs.Demand3.{Bounded, NoSlotWanting, AnswersPlace, PlacesAnswered, Kept, Demand3}
 use Rattle.history.proofs.Invariant.{Inv}
 use Rattle.history.proofs.Groups.{step-number}
-use Rattle.history.proofs.Calls.{inv-new, carried, carried-on, bounded, not-9, answers-place, usual}
+use Rattle.history.proofs.Calls.{inv-new, sound-ticked, carried, carried-on, bounded, not-9, answers-place, usual}
 use Rattle.history.proofs.Chain.{Chain, end, call, idle, chain-of}
 use Rattle.history.proofs.Chain.{Idle, idle-feed, idle-runs, idle-not-9, idle-accepted}
 
@@ -35,23 +36,22 @@ inv-cleared S σ z =
     let R = ranges-facts S (f .ranges) in
     let X = lengths-facts S (lengthsOf σ) (f .lengths) in
     let none : (x : ℕ) → x < S .n → forwardOf (calls.cleared S σ) x ≡ empty = λ x b. getD-replicate (S .n) x empty empty b in
-    inv-new S (calls.cleared S σ) tally.start (f .ranges) (f .limit)
+    subst (λ (σ′ : State). Inv S σ′ tally.start tally.start) (cleared-new S σ (R .b-high))
+    (inv-new S (calls.cleared S σ) tally.start (f .ranges) (f .limit)
+    (sound-ticked R
     (record {
-      ranges = R;
-      lengths = record {
-        store = X .store;
-        forward = length-replicate (S .n) empty;
-        reverse = length-replicate (S .q) empty;
-        rows = length-replicate (S .k) empty;
-        counts = length-replicate (S .k) 0;
-      };
-      inverse = record {
-        forward = λ x b. inl (none x b);
-        reverse = λ s b. inl (getD-replicate (S .q) s empty empty b);
-      };
+      store = X .store;
+      forward = length-replicate (S .n) empty;
+      reverse = length-replicate (S .q) empty;
+      rows = length-replicate (S .b * S .k) empty;
+      counts = length-replicate {A = ℕ} (S .b * S .k) 0;
     })
+    (record {
+      forward = λ x b. inl (none x b);
+      reverse = λ s b. inl (getD-replicate (S .q) s empty empty b);
+    }))
     (omega (arith, R .q-low))
-    (λ x b. rw (none x b))
+    (λ x b. rw (none x b)))
 
 pub inv-set-up : (S : Settings) (σ : State) → (calls.setUp S σ) .number ≡ 0 → Inv S ((calls.setUp S σ) .state) tally.start tally.start
 unfolding calls.setUp calls.noted

@@ -7,27 +7,14 @@ use Rattle.geometry.specs.declared.Settings.{Settings}
 use Rattle.conditions.specs.Conditions.{rangesHold, limitHolds}
 use Rattle.geometry.specs.Entry.{empty}
 use Rattle.tracking.proofs.Sums.{quotients}
-use Rattle.tracking.proofs.Tracking.{estimateOf}
-use Rattle.tracking.proofs.View.{Counting}
-use Rattle.engine.specs.State.{State, Tracker, trackerAt, forwardOf, reverseOf}
+use Rattle.engine.specs.State.{State, trackerAt, forwardOf, reverseOf}
 use Rattle.engine.specs.Steps.{place}
 use Rattle.history.specs.Tally.{Tally}
 use Rattle.engine.proofs.Window.{goneBy}
 use Rattle.engine.proofs.Ahead.{ahead}
 use Rattle.history.proofs.Openings.{Home, Slot}
 use Rattle.engine.proofs.Pointers.{Sound}
-
--- what the tracker that serves physical row p has counted,
-abbrev pub CountingAt : Settings → State → ℕ → Type 0
-CountingAt S σ p =
-    let t : Tracker = trackerAt S σ p in
-    Counting (S .k) (t .rows) (t .counts) (t .spill) (t .acts)
-
--- and its estimate of the row
-abbrev pub estimate : Settings → State → ℕ → ℕ
-estimate S σ p =
-    let t : Tracker = trackerAt S σ p in
-    estimateOf (t .rows) (t .counts) (t .spill) p
+use Rattle.engine.proofs.Trackers.{CountingAt, estimate}
 
 -- slot s is gone by
 abbrev pub gone : Settings → State → ℕ → Bool
@@ -54,9 +41,10 @@ pub record Inv (S : Settings) (σ : State) (τ₀ τ : Tally) : Type 0 where
   pub sound : Sound S σ
   pub head-in : σ .control .head < S .q
   pub passed-in : σ .control .passed ≤ S .q
-  -- the tracker, by the physical rows that it serves
+  -- the trackers, by the physical rows that they serve
   pub acts-in : (p : ℕ) → trackerAt S σ p .acts ≤ S .l
   pub counting : (p : ℕ) → CountingAt S σ p
+  -- the quarantines of all banks together
   pub quarantines : τ .quarantines ≡ τ₀ .quarantines + quotients (S .a) (σ .counts)
   -- for each quarantine, two slots at most are gone by or are worn ahead of the head
   pub passed-few : σ .control .passed + ahead (wornSlot S σ) (S .q) (σ .control .head) (σ .control .passed)

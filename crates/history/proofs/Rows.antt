@@ -18,12 +18,9 @@ use Rattle.history.proofs.Openings.{Home, Slot, home-rests, home-opened
 use Rattle.engine.proofs.Pointers.{Relinked, marks-none, place-is}
 use Rattle.engine.proofs.Moves.{not-own}
 use Rattle.history.proofs.Tallied.{Tallied, hit-home, hit-slot, hit-here, hit-away, hit-own}
-use Rattle.history.proofs.Invariant.{Inv, estimate, gone, wornSlot, HomeKept, SlotKept}
-
--- the estimates before and after an access of place p
-pub record Estimated (S : Settings) (σ σ′ : State) (p : ℕ) : Type 0 where
-  pub same : estimate S σ′ p ≡ suc (estimate S σ p)
-  pub other : (x : ℕ) → x ≢ p → x ≢ empty → Grew (S .a) (estimate S σ x) (estimate S σ′ x)
+use Rattle.engine.proofs.Trackers.{estimate}
+use Rattle.engine.proofs.Counting.{Estimated}
+use Rattle.history.proofs.Invariant.{Inv, gone, wornSlot, HomeKept, SlotKept}
 
 module _ (S : Settings) (σ : State) (τ₀ τ : Tally) (I : Inv S σ τ₀ τ) (r : ℕ) (row-in : r < S .n) (σ′ : State) (E : Estimated S σ σ′ (place S σ r)) where
   real : (x : ℕ) → x < S .n + S .q → x ≢ empty

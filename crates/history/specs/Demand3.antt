@@ -17,8 +17,8 @@ pub record Bounded (S : Settings) (e : Stretch) : Type 0 where
   pub homes : (r : ℕ) → r < S .n → openingsIn e (homeRow r) ≤ S .a + 2
   -- each slot is opened at most A + 3 times (document 02, Ask 4)
   pub slots : (s : ℕ) → s < S .q → openingsIn e (slotRow S s) ≤ S .a + 3
-  -- there are at most floor(L / A) quarantines
-  pub quarantines : quarantinesIn e ≤ S .l / S .a
+  -- there are at most B × floor(L / A) quarantines: 'quarantines are at most B times the old figure' (document 02, Ask 5)
+  pub quarantines : quarantinesIn e ≤ S .b * (S .l / S .a)
 
 -- 'An access is refused for want of a slot when it gets 9.'
 abbrev pub NoSlotWanting : Event → Type 0
@@ -36,7 +36,8 @@ PlacesAnswered S τ (e ∷ es) = OfAccepted (AnswersPlace τ) e × PlacesAnswere
 -- demand 3, of what the calls after set-up answered
 pub record Kept (S : Settings) (es : List Event) : Type 0 where
   pub bounded : Each (Bounded S) (epochs S start start (map reportOf es))
-  pub enough : 2 * (S .l / S .a) ≤ S .q → Each NoSlotWanting es
+  -- 'quarantines are at most B times the old figure, and so are the slots needed' (document 02, Ask 5)
+  pub enough : 2 * (S .b * (S .l / S .a)) ≤ S .q → Each NoSlotWanting es
   pub places : PlacesAnswered S start es
 
 -- For all settings, all lent memory and all lists of calls: if set-up is accepted, then demand 3 holds of the list.

@@ -6,47 +6,53 @@
 ghost use mathlib.Core.Path.{_≡_};
 ghost use mathlib.Core.Logic.{_≢_};
 ghost use mathlib.Core.Bool.{false, cond};
-ghost use Prim.Native.Nat.{_+_, _-_, _%_, _<_, _≤_};
+ghost use Prim.Native.Nat.{ℕ, _+_, _-_, _%_, _<_, _≤_};
 ghost use lib.Dec.{ltb};
-ghost use lib.ListN.{length, set, replicate};
+ghost use lib.ListN.{length, getD, set, drop, replicate};
 ghost use Rattle.geometry.specs.Entry.{empty};
 ghost use Rattle.scan.specs.Scan.{indexOf};
-ghost use Rattle.tracking.specs.Worn.{worn};
+ghost use Rattle.geometry.specs.Numbering.{slotRow};
+ghost use Rattle.banks.specs.Banks.{bankOf};
 ghost use Rattle.engine.specs.Steps.{skippedOf};
-ghost use Rattle.seek.specs.Seeking.{skipsBefore, Seekable, markedBy, skipsMarked, Marked};
+ghost use Rattle.seek.specs.Seeking.{wornBefore, skipsBefore, Seekable, markedBy, skipsMarked, MarkedIn, Marked};
 use geometry::ForwardEntry;
+use geometry::PhysicalRow;
 use geometry::Ring;
 use geometry::Settings;
 
-// Returns the lowest entry, but for one left out, that names a physical row; the number of entries where none does.
-fn lowest_but(rows: &[u16], changed: usize, name: u16) -> usize
-    requires { ⌜ (changed < length (now rows)) × (name ≢ empty) ⌝ }
-    ensures { λ r. ⌜ r ≡ indexOf name (set (now (rows .entry)) changed empty) ⌝ }
+// Returns the lowest entry from one on, but for one left out, that names a physical row; the number of entries where none
+// does.
+fn lowest_but(rows: &[u16], from: usize, changed: usize, name: u16) -> usize
+    requires { ⌜ (from ≤ length (now rows)) × (name ≢ empty) ⌝ }
+    ensures { λ r. ⌜ r ≡ from + indexOf name (drop from (set (now (rows .entry)) changed empty)) ⌝ }
 {
-    let i = row_scan::index_from(rows, 0, name);
+    let i = row_scan::index_from(rows, from, name);
     if i == changed {
-        return row_scan::index_from(rows, changed + 1, name);
+        if i < rows.len() {
+            return row_scan::index_from(rows, i + 1, name);
+        }
     }
     i
 }
 
-// Tells whether the lowest entry that names a slot's physical row, but for the entry left out, has a count of the
-// threshold or more. (first: the physical row of slot 0)
+// Tells whether the lowest entry of a physical row's bank that names the row, but for the entry left out, has a count of the
+// threshold or more.
 fn is_worn(
-    threshold: u32,
+    s: Settings,
     changed: usize,
-    first: u32,
-    slot: u32,
+    row: PhysicalRow,
     rows: &[u16],
     counts: &[u32],
 ) -> bool
-    requires { ⌜
-        (changed < length (now rows)) × (length (now rows) ≡ length (now counts)) × (first + slot < empty) ⌝ }
-    ensures { λ r. ⌜ r ≡ worn threshold (set (now (rows .entry)) changed empty) (now (counts .entry)) (first + slot) ⌝ }
+    requires { ⌜ Seekable s changed (now rows) (now counts) × (row .0 < empty) ⌝ }
+    ensures { λ r. ⌜ r ≡ wornBefore s changed (now (rows .entry)) (now (counts .entry)) (row .0) ⌝ }
 {
-    let i = lowest_but(rows, changed, (first + slot) as u16);
-    if i < counts.len() {
-        return threshold <= counts[i];
+    let k = s.k as usize;
+    let from = banks::bank_of(s, row) * k;
+    let to = from + k;
+    let i = lowest_but(&rows[..to], from, changed, row.0 as u16);
+    if i < to {
+        return s.a <= counts[i];
     }
     false
 }
@@ -66,7 +72,8 @@ fn is_skipped(
     if (entry.0 as u32) == slot {
         return true;
     }
-    is_worn(s.a, changed, s.n, slot, rows, counts)
+    let row = PhysicalRow((s.n + slot) as u64);
+    is_worn(s, changed, row, rows, counts)
 }
 
 // Returns the slot after a slot, round Q.
@@ -115,32 +122,59 @@ fn unmarked() -> [bool; 5500]
     [false; 5500]
 }
 
-// Marks the slot whose physical row an entry names as worn or not, where it names one. (first: the physical row of slot 0)
-fn mark(first: u32, name: u16, is: bool, marks: &mut [bool])
-    ensures { λ _. ⌜ now (marks .exit) ≡ markedBy first name is (now (marks .entry)) ⌝ }
+// Marks the slot whose physical row an entry of a bank names as worn or not, where it names one of that bank.
+fn mark(s: Settings, bank: usize, name: u16, is: bool, marks: &mut [bool])
+    requires { ⌜ 1 ≤ s .b ⌝ }
+    ensures { λ _. ⌜ now (marks .exit) ≡ markedBy s bank name is (now (marks .entry)) ⌝ }
 {
     let row = name as u32;
-    if row < first {
+    if row < s.n {
         return;
     }
-    let slot = (row - first) as usize;
+    let slot = (row - s.n) as usize;
     if slot < marks.len() {
-        marks[slot] = is;
+        if banks::bank_of(s, PhysicalRow(row as u64)) == bank {
+            marks[slot] = is;
+        }
     }
 }
 
-// Marks every slot, from the last entry of the tracker to the first: so the lowest entry that names a slot has the say.
+// Marks every slot of a bank, from the last entry of the bank to the first: so the lowest entry that names a slot has the say.
+fn mark_bank(
+    s: Settings,
+    bank: usize,
+    changed: usize,
+    rows: &[u16],
+    counts: &[u32],
+    marks: &mut [bool],
+)
+    requires { ⌜
+        Seekable s changed (now rows) (now counts) × (bank < s .b) × (s .q ≤ length (now marks)) 
+        × ((i : ℕ) → i < s .q → bankOf s (slotRow s i) ≡ bank → getD (now marks) i false ≡ false) ⌝ }
+    ensures { λ _.
+        ⌜ MarkedIn s changed (now (rows .entry)) (now (counts .entry)) bank (now (marks .entry)) (now (marks .exit)) ⌝ }
+{
+    let k = s.k as usize;
+    let from = bank * k;
+    let mut i = from + k;
+    while from < i {
+        i -= 1;
+        if i != changed {
+            mark(s, bank, rows[i], s.a <= counts[i], marks);
+        }
+    }
+}
+
+// Marks every slot, bank after bank.
 fn mark_worn(s: Settings, changed: usize, rows: &[u16], counts: &[u32], marks: &mut [bool])
     requires { ⌜
         Seekable s changed (now rows) (now counts) × (now marks ≡ replicate 5500 false) ⌝ }
     ensures { λ _. ⌜ Marked s changed (now (rows .entry)) (now (counts .entry)) (now (marks .exit)) ⌝ }
 {
-    let mut i = rows.len();
-    while 0 < i {
-        i -= 1;
-        if i != changed {
-            mark(s.n, rows[i], s.a <= counts[i], marks);
-        }
+    let mut bank: usize = 0;
+    while bank < (s.b as usize) {
+        mark_bank(s, bank, changed, rows, counts, marks);
+        bank += 1;
     }
 }
 

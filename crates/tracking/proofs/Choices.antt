@@ -5,7 +5,7 @@ use native.Mathlib.Omega.{arith}
 use mathlib.Core.Path.{_≡_, refl, sym, ap, _∙_, subst}
 use mathlib.Core.Logic.{inl, inr}
 use mathlib.Core.List.{List}
-use lib.ListN.{length, getD}
+use lib.ListN.{length, getD, set, length-set}
 use borrow.Author.Tests.{lt-ltb, le-ltb}
 use Rattle.geometry.proofs.Cases.{lt?}
 use Rattle.tracking.specs.declared.Choice.{Choice}
@@ -43,6 +43,21 @@ module _ (p : ℕ) (rows counts : List ℕ) (spill : ℕ) where
           | inr k ↦ rw (le-ltb (indexOf spill counts) (length counts) k)
         ])
       ]
+
+  -- ---- the tables keep their lengths
+
+  followed-long : (choice : Choice)
+      → (length ((followed choice p rows counts spill) .rows) ≡ length rows) × (length ((followed choice p rows counts spill) .counts) ≡ length counts)
+  followed-long (Raise i count) = (refl, length-set counts i count)
+  followed-long (Take i count) = (length-set rows i p, length-set counts i count)
+  followed-long (Spill next) = (refl, refl)
+
+  pub track-long : (length ((track p rows counts spill) .rows) ≡ length rows) × (length ((track p rows counts spill) .counts) ≡ length counts)
+  track-long =
+      subst (λ (t : Tracked). (length (t .rows) ≡ length rows) × (length (t .counts) ≡ length counts)) follow-choice
+      (followed-long (choiceOf p rows counts spill))
+
+  -- ---- the estimate
 
   followed-estimate : (choice : Choice) → estimateBy choice ≡ (followed choice p rows counts spill) .estimate
   followed-estimate (Raise i count) = refl

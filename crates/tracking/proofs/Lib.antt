@@ -1,4 +1,5 @@
 pub mod Choices
+pub mod Banks
 pub mod Sums
 pub mod Tracking
 pub mod View

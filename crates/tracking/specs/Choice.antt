@@ -1,6 +1,6 @@
 -- Step 2 in two halves, as the code does it: choose a way, which writes nothing, and then follow it.
 -- Assumes nothing.
-use Prim.Native.Nat.{ℕ, suc, _<_}
+use Prim.Native.Nat.{ℕ, suc, _+_, _*_, _<_}
 use mathlib.Core.Bool.{cond}
 use mathlib.Core.List.{List}
 use lib.Dec.{ltb}
@@ -8,6 +8,7 @@ use lib.ListN.{length, getD, set}
 use Rattle.tracking.specs.declared.Choice.{Choice}
 use Rattle.tracking.specs.declared.Choice.the-variants.{Raise, Take, Spill}
 use Rattle.scan.specs.Scan.{indexOf}
+use Rattle.banks.specs.Portions.{portion}
 use Rattle.tracking.specs.Track.{Tracked}
 
 -- the way that step 2 goes at place p
@@ -16,6 +17,16 @@ choiceOf p rows counts spill =
     cond (ltb (indexOf p rows) (length rows))
     (Raise (indexOf p rows) (suc (getD counts (indexOf p rows) 0)))
     (cond (ltb (indexOf spill counts) (length counts)) (Take (indexOf spill counts) (suc spill)) (Spill (suc spill)))
+
+-- a way whose entry is so many entries further on
+abbrev pub shiftedBy : ℕ → Choice → Choice
+shiftedBy from (Raise i count) = Raise (from + i) count
+shiftedBy from (Take i count) = Take (from + i) count
+shiftedBy from (Spill spill) = Spill spill
+
+-- the way at a place of bank c, in the tables of all banks, each of k entries (document 02, Ask 5); spill: the bank's
+unfoldable pub choiceIn : ℕ → ℕ → ℕ → List ℕ → List ℕ → ℕ → Choice
+choiceIn k c p rows counts spill = shiftedBy (c * k) (choiceOf p (portion k c rows) (portion k c counts) spill)
 
 -- the estimate of a way, 0 for none
 abbrev pub estimateBy : Choice → ℕ

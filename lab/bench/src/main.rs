@@ -38,8 +38,8 @@ fn run() -> Result<Vec<Cell>, String> {
     let mut cells = Vec::new();
     for kind in KINDS {
         report::print_head(kind);
-        for (w, k) in kind.sizes() {
-            let cell = measure(&stream(kind, k, w))?;
+        for size in kind.sizes() {
+            let cell = measure(&stream(kind, size))?;
             report::print_row(&cell);
             cells.push(cell);
         }

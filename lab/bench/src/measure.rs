@@ -2,7 +2,7 @@
 //! they answered and what they left.
 
 use crate::runner::{Runner, ORDER, PROVED, RUNNERS};
-use crate::stream::{Kind, Stream};
+use crate::stream::{Kind, Size, Stream};
 use model::memory::Memory;
 
 /// Rounds of one cell. In each round every engine makes one short pass, so that other work on the machine meets all of
@@ -12,8 +12,7 @@ pub const ROUNDS: usize = 301;
 /// One stream's figures, by engine. Each is a median over the rounds.
 pub struct Cell {
     pub kind: Kind,
-    pub w: u32,
-    pub k: u32,
+    pub size: Size,
     pub accesses: u64,
     /// The number that each of them got.
     pub number: u32,
@@ -93,8 +92,7 @@ pub fn measure(stream: &Stream) -> Result<Cell, String> {
     let ratio = |at| median(seconds.iter().map(|round| round[at] / round[PROVED]));
     Ok(Cell {
         kind: stream.kind,
-        w: stream.s.w,
-        k: stream.s.k,
+        size: Size { w: stream.s.w, k: stream.s.k, b: stream.s.b },
         accesses: accesses * (ROUNDS * RUNNERS.len()) as u64,
         number: stream.number,
         nanoseconds: std::array::from_fn(time),

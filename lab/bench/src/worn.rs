@@ -1,9 +1,9 @@
 //! The streams in which slots are worn. A slot becomes worn by the access that moves its row to another one, and stays
 //! so up to the tick. So an epoch has at most as many worn slots as moves, and each move takes the head one slot further
-//! at least: where all slots that the head has not gone by are worn, they are at most half of Q.
+//! at least: where all slots that the head has not gone by are worn, they are at most half of Q. There is one bank.
 
-use crate::stream::{again, copy_of, fill_slots, new_memory, seat, Kind, Stream};
-use model::memory::{Memory, Settings};
+use crate::stream::{again, copy_of, fill_slots, new_memory, seat, Kind, Size, Stream};
+use model::memory::{Memory, Settings, BANKS};
 
 /// A row that was read once is moved by the next access.
 const A: u32 = 2;
@@ -33,7 +33,7 @@ struct Worn {
 fn wear(k: u32, w: u32, q: u32, worn: &[u32]) -> Worn {
     let moves = worn.len() as u32;
     let spare = k - moves;
-    let s = Settings { n: q + spare, q, w, k, a: A, l: A * (k + 1) - 1 };
+    let s = Settings { n: q + spare, q, w, k, a: A, l: A * (k + 1) - 1, b: 1 };
     let once: Vec<u32> = (q..s.n).collect();
     let mut lead = fill_slots(&s);
     lead.extend(&once);
@@ -52,23 +52,23 @@ fn wear(k: u32, w: u32, q: u32, worn: &[u32]) -> Worn {
     high.fill(A);
     start.control.head = moves;
     start.control.passed = moves;
-    start.control.acts = spare + A * moves;
+    start.control.acts[0] = spare + A * moves;
     Worn { s, start, lead, once }
 }
 
-pub fn worn_slots(k: u32, w: u32, wanted: usize) -> Stream {
+pub fn worn_slots(Size { w, k, .. }: Size, wanted: usize) -> Stream {
     let moves = PASSED * MOVES;
     let q = moves + (PASSED + 1) * MOVES;
     let worn: Vec<u32> = (moves..q).filter(|slot| (slot - moves) % (PASSED + 1) != PASSED).collect();
     let Worn { s, start, lead, once } = wear(k, w, q, &worn);
     let (lead, steps) = (Some(lead), once[..MOVES as usize].to_vec());
-    let (times, moved) = (wanted.div_ceil(steps.len()), u64::from(MOVES));
-    Stream { kind: Kind::WornSlots, s, start, lead, steps, number: 0, times, moved, sent_home: moved, spill: 0 }
+    let (times, moved, spill) = (wanted.div_ceil(steps.len()), u64::from(MOVES), [0; BANKS]);
+    Stream { kind: Kind::WornSlots, s, start, lead, steps, number: 0, times, moved, sent_home: moved, spill }
 }
 
-pub fn nines(k: u32, w: u32) -> Stream {
+pub fn nines(Size { w, k, .. }: Size) -> Stream {
     let Worn { s, start, lead, once } = wear(k, w, 2 * WORN, &(WORN..2 * WORN).collect::<Vec<_>>());
     let spread = |i| once[((2 * i + 1) as usize * once.len()) / (2 * REFUSED as usize)];
-    let (lead, steps) = (Some(lead), (0..REFUSED).map(spread).collect());
-    Stream { kind: Kind::Nines, s, start, lead, steps, number: 9, times: 1, moved: 0, sent_home: 0, spill: 0 }
+    let (lead, steps, spill) = (Some(lead), (0..REFUSED).map(spread).collect(), [0; BANKS]);
+    Stream { kind: Kind::Nines, s, start, lead, steps, number: 9, times: 1, moved: 0, sent_home: 0, spill }
 }

@@ -1,8 +1,8 @@
-//! What an estimate tells of its place (document 02, Ask 2), judged from outside: the judge is fed the calls, their answers
-//! and `spill` as the call left it. A place whose estimate has come to A is left, and no row moves to it again in the epoch
-//! (Ask 4) or is sent home to it; so no estimate is above A.
+//! What an estimate tells of its place (document 02, Ask 2), judged from outside: the judge is fed the calls, their
+//! answers and `spill` of the place's bank as the call left it. A place whose estimate has come to A is left, and no row
+//! moves to it again in the epoch (Ask 4) or is sent home to it; so no estimate is above A.
 
-use model::memory::{Answer, Call, Settings, NONE};
+use model::memory::{Answer, Call, Control, Settings, NONE};
 
 /// What the answers of the running epoch said of each place.
 pub struct Estimates {
@@ -21,10 +21,12 @@ impl Estimates {
     }
 
     /// Takes in a call, and judges what it answered if it is an accepted access.
-    pub fn feed(&mut self, s: &Settings, call: &Call, answer: &Answer, spill: u32) -> Result<(), String> {
+    pub fn feed(&mut self, s: &Settings, call: &Call, answer: &Answer, control: &Control) -> Result<(), String> {
         match call {
             _ if answer.number != 0 => Ok(()),
-            Call::Read { .. } | Call::Write { .. } => self.access(s, answer, spill),
+            Call::Read { .. } | Call::Write { .. } => {
+                self.access(s, answer, control.spill[s.bank(answer.place as usize)])
+            }
             Call::Tick => {
                 self.accesses.fill(0);
                 self.latest.fill(0);

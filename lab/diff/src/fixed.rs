@@ -1,51 +1,63 @@
-//! Single reads on tables that were made for them, with answers worked out by hand from document 02's Ask 4: which slots the
-//! head passes, where it stops, and what is judged before what.
+//! Single reads on tables that were made for them, with answers worked out by hand from document 02's Ask 4: which slots
+//! the head passes, where it stops, and what is judged before what. All of them have one bank, as before Ask 5; `banks`
+//! has more.
 
 use crate::pair::{Counts, Pair};
 use model::fault::Fault;
 use model::memory::{Answer, Call, Control, Memory, Settings, NONE};
 
 /// What a read finds: empty tables, an empty tracker and a control record of zeros, but for what is put in.
-struct Scene {
-    s: Settings,
-    memory: Memory,
+pub struct Scene {
+    pub s: Settings,
+    pub memory: Memory,
 }
 
 /// What is answered, and `head` and `passed` afterwards.
 #[derive(PartialEq, Eq, Debug)]
-enum End {
+pub enum End {
     Moved { slot: u32, sent_home: u32, head: u32, passed: u32 },
     Refused(u32),
 }
 
 impl Scene {
-    /// N, Q, W, K, A and L.
+    /// N, Q, W, K, A and L, with one bank.
     fn new([n, q, w, k, a, l]: [u32; 6]) -> Scene {
-        let s = Settings { n, q, w, k, a, l };
+        Scene::banked([n, q, w, k, a, l, 1])
+    }
+
+    /// N, Q, W, K, A, L and B.
+    pub fn banked([n, q, w, k, a, l, b]: [u32; 7]) -> Scene {
+        let s = Settings { n, q, w, k, a, l, b };
         let mut memory = Memory::raw(&s, 255);
         memory.counts.fill(0);
         memory.control = Control::default();
         Scene { s, memory }
     }
 
-    /// The tracker's first entries: physical row and count. `acts` becomes the sum of the counts.
-    fn tracker(mut self, entries: &[(u32, u32)]) -> Scene {
-        for (at, &(row, count)) in entries.iter().enumerate() {
+    /// The tracker's first entries, those of the first bank.
+    fn tracker(self, entries: &[(u32, u32)]) -> Scene {
+        self.bank(0, entries)
+    }
+
+    /// A bank's first entries: physical row and count. Its `acts` becomes the sum of its counts.
+    pub fn bank(mut self, bank: usize, entries: &[(u32, u32)]) -> Scene {
+        let of_bank = self.s.entries_of(bank);
+        for (at, &(row, count)) in of_bank.clone().zip(entries) {
             self.memory.rows[at] = row as u16;
             self.memory.counts[at] = count;
         }
-        self.memory.control.acts = self.memory.counts.iter().sum();
+        self.memory.control.acts[bank] = self.memory.counts[of_bank].iter().sum();
         self
     }
 
-    fn head(mut self, head: u32, passed: u32) -> Scene {
+    pub fn head(mut self, head: u32, passed: u32) -> Scene {
         self.memory.control.head = head;
         self.memory.control.passed = passed;
         self
     }
 
     /// The row sits in the slot.
-    fn sits(mut self, row: u16, slot: u16) -> Scene {
+    pub fn sits(mut self, row: u16, slot: u16) -> Scene {
         self.memory.forward[usize::from(row)] = slot;
         self.memory.reverse[usize::from(slot)] = row;
         self
@@ -58,7 +70,7 @@ impl Scene {
     }
 
     /// One read of a row; `what` names the scene in a report.
-    fn read(self, what: &str, row: u32, expected: End, counts: &mut Counts) -> Result<(), String> {
+    pub fn read(self, what: &str, row: u32, expected: End, counts: &mut Counts) -> Result<(), String> {
         let Scene { s, memory } = self;
         let mut pair = Pair::new(memory, Fault::Nothing, true);
         let answer = pair.call(&s, &Call::Read { row, length: s.w as usize }, counts)?;
@@ -74,7 +86,7 @@ impl Scene {
 }
 
 /// The row was moved to the slot, and nothing was sent home.
-fn moved(slot: u32, head: u32, passed: u32) -> End {
+pub fn moved(slot: u32, head: u32, passed: u32) -> End {
     End::Moved { slot, sent_home: NONE, head, passed }
 }
 

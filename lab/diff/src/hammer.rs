@@ -1,7 +1,7 @@
 //! Hammering streams judged by the outside tally: the bounds of demand 3 hold in every epoch, and are attained.
 
 use crate::pair::{Counts, Pair};
-use crate::sound::Watcher;
+use crate::sound::{banks, Watcher};
 use crate::tally::{self, Figures};
 use model::fault::Fault;
 use model::memory::{Answer, Call, Memory, Settings, NONE};
@@ -50,8 +50,8 @@ impl<'a> Stream<'a> {
     }
 }
 
-fn settings(n: u32, q: u32, k: u32, a: u32, l: u32) -> Settings {
-    Settings { n, q, w: 1, k, a, l }
+fn settings([n, q, k, a, l, b]: [u32; 6]) -> Settings {
+    Settings { n, q, w: 1, k, a, l, b }
 }
 
 /// Document 01's trace with the lines of document 02's Ask 4, step by step: number, place, estimate (worked out by hand),
@@ -77,7 +77,7 @@ pub fn printed_trace(counts: &mut Counts) -> Result<(), String> {
         (0, 2, 1, NONE, NONE),
         (0, 2, 2, 0, 1),
     ];
-    let mut stream = Stream::new(settings(4, 2, 2, 2, 5), counts)?;
+    let mut stream = Stream::new(settings([4, 2, 2, 2, 5, 1]), counts)?;
     for (at, (step, line)) in steps.into_iter().zip(printed).enumerate() {
         let got = stream.step(step)?;
         if (got.number, got.place, got.estimate, got.slot, got.row) != line {
@@ -87,63 +87,97 @@ pub fn printed_trace(counts: &mut Counts) -> Result<(), String> {
     stream.end()
 }
 
-/// Streams that attain the figures: A + 2 at row 0's home, in its second epoch; A + 3 at slot 0, in its second epoch; and
-/// a 9 with one slot less than suffices, in its third.
-pub fn attained(a: u32, counts: &mut Counts) -> Result<(), String> {
+/// The numbers that a stream answered, and the figures of its last epoch.
+struct Ran {
+    numbers: Vec<u32>,
+    figures: Figures,
+}
+
+fn run(s: Settings, steps: &[Vec<u32>], counts: &mut Counts) -> Result<Ran, String> {
+    let mut stream = Stream::new(s, counts)?;
+    let mut numbers = Vec::new();
+    for &step in steps.iter().flatten() {
+        numbers.push(stream.step(step)?.number);
+    }
+    stream.end()?;
+    Ok(Ran { numbers, figures: stream.watcher.tally.figures() })
+}
+
+/// A stream that meets a 9 with one slot less than suffices, and none with one slot more, where its last epoch has as
+/// many quarantines as there can be. With one bank: row 0 passes its own slot 0, and takes slot 1; row 2 would pass its
+/// own slot 2 and slot 0.
+///
+/// With B of 2 or more banks, one entry in each, L = A and N = 2 B, an epoch has at most B quarantines and 2 B slots
+/// suffice. Home i and slot i, which is physical row N + i, are of bank i mod B. In the first epoch rows 0 to B - 1 are
+/// read A times each and take the slots of their numbers. In the second they are read A times again, there: row i leaves
+/// slot i worn, by its bank's only entry, and takes slot B + i, as long as there is one. With 2 B - 1 slots there is none
+/// for row B - 1: the head is at slot 0 again, with B - 1 slots gone by; slots 0 to B - 2 are worn, B - 1 is the row's
+/// own, and slot B is free, since the only entry of its bank names slot 0. That would be B + 1 slots more, 2 B in all: a
+/// 9. So for B = 2 the settings are `4 3 1 1 A A 2`, and the steps A times 0, A times 1, a tick, A times 0, A times 1.
+/// With 2 B slots row B - 1 takes the last.
+fn one_slot_short(a: u32, b: u32, counts: &mut Counts) -> Result<bool, String> {
     let burst = |row: u32| vec![row; a as usize];
     let tick = vec![TICK];
-    let mut run = |s: Settings, steps: &[Vec<u32>], physical: usize| -> Result<(u64, Vec<u32>), String> {
-        let mut stream = Stream::new(s, counts)?;
-        let mut numbers = Vec::new();
-        for &step in steps.iter().flatten() {
-            numbers.push(stream.step(step)?.number);
-        }
-        stream.end()?;
-        Ok((stream.watcher.tally.opened(physical), numbers))
+    let once: Vec<Vec<u32>> = (0..b).map(burst).collect();
+    let (s, steps) = if b == 1 {
+        let steps = vec![burst(0), burst(1), tick.clone(), burst(2), tick, burst(0), burst(2)];
+        (settings([4, 3, 2, a, 2 * a, 1]), steps)
+    } else {
+        (settings([2 * b, 2 * b - 1, 1, a, a, b]), [once.clone(), vec![tick], once].concat())
     };
+    let short = run(s, &steps, counts)?;
+    let roomy = run(Settings { q: s.q + 1, ..s }, &steps, counts)?;
+    let (last, others) = short.numbers.split_last().ok_or("no steps")?;
+    let accepted = others.iter().chain(&roomy.numbers).all(|&number| number == 0);
+    Ok(*last == 9 && accepted && roomy.figures.quarantines == s.figure())
+}
+
+/// Streams that attain the figures: A + 2 at row 0's home, in its second epoch; A + 3 at slot 0, in its second epoch; and
+/// a 9 with one slot less than suffices. The first two ask for two entries at most in a bank, and for at most 2 A
+/// accesses of a bank; so they do so with any number of banks.
+pub fn attained(a: u32, b: u32, counts: &mut Counts) -> Result<(), String> {
+    let burst = |row: u32| vec![row; a as usize];
+    let tick = vec![TICK];
+    let s = settings([3, 2, 2, a, 2 * a, b]);
     // Row 2 sends row 0 home, which is opened for that, then hammered, then left.
     let steps = [burst(0), burst(1), tick.clone(), burst(2), burst(0)];
-    let (home, home_numbers) = run(settings(3, 2, 2, a, 2 * a), &steps, 0)?;
+    let home = run(s, &steps, counts)?;
     // Slot 0 is opened by row 0 once less than A times, twice when row 2 takes its place, and twice when that row leaves.
     let almost = vec![0; a as usize - 1];
-    let steps = [burst(0), burst(1), tick.clone(), almost, burst(2), vec![2]];
-    let (slot, slot_numbers) = run(settings(3, 2, 2, a, 2 * a), &steps, 3)?;
-    // Row 0 passes its own slot 0, and takes slot 1; row 2 would pass its own slot 2 and slot 0.
-    let steps = [burst(0), burst(1), tick.clone(), burst(2), tick, burst(0), burst(2)];
-    let (_, mut numbers) = run(settings(4, 3, 2, a, 2 * a), &steps, 0)?;
-    let last = numbers.pop();
-    println!(
-        "  A {a:>6}: home {home} of A + 2 = {}, slot {slot} of A + 3 = {}, 9 with Q = 2 (L / A) - 1",
-        a + 2,
-        a + 3
-    );
-    if [home_numbers, slot_numbers, numbers].iter().flatten().any(|&number| number != 0) {
-        return Err(format!("a step of an attaining stream was refused, for A = {a}"));
+    let steps = [burst(0), burst(1), tick, almost, burst(2), vec![2]];
+    let slot = run(s, &steps, counts)?;
+    let figures = (home.figures.home, slot.figures.slot);
+    if [home.numbers, slot.numbers].iter().flatten().any(|&number| number != 0) {
+        return Err(format!("a step of an attaining stream was refused, for A = {a} and B = {b}"));
     }
-    if (home, slot, last) != (u64::from(a) + 2, u64::from(a) + 3, Some(9)) {
-        return Err(format!("the attaining streams miss the figures for A = {a}: {home}, {slot}, {last:?}"));
+    let short = one_slot_short(a, b, counts)?;
+    if !short || figures != (u64::from(a) + 2, u64::from(a) + 3) {
+        return Err(format!("the attaining streams miss the figures for A = {a}, B = {b}: {figures:?}, a 9: {short}"));
     }
     Ok(())
 }
 
-/// Streams that chase the head and the rows just moved, for one threshold; prints the maxima that they reach.
+/// Streams that chase the head and the rows just moved, for one threshold and any number of banks; prints the maxima that
+/// they reach.
 pub fn hammer(rng: &mut Rng, a: u32, calls: u64, counts: &mut Counts) -> Result<(), String> {
     let mut most = Figures::default();
-    let (mut streams, mut epochs, mut roomy_epochs, mut tight_spent, mut full) = (0u64, 0u64, 0u64, 0u64, 0u64);
+    let (mut streams, mut epochs, mut roomy_epochs, mut tight_spent) = (0u64, 0u64, 0u64, 0u64);
+    // Epochs with as many quarantines as there can be, with one bank and with more.
+    let mut full = [0u64; 2];
     let target = counts.total() + calls;
     while counts.total() < target {
-        let n = rng.between(2, 12) as u32;
+        let b = banks(rng) as u32;
+        let n = rng.between(2, 12) as u32 + rng.pick(&[0, b - 1, 2 * b - 2]);
         let k = rng.between(1, 8) as u32;
         let l = if rng.once_in(3) { rng.between(1, u64::from(a * (k + 1)) - 1) as u32 } else { a * (k + 1) - 1 };
-        let figure = 2 * (l / a);
+        let figure = 2 * b * (l / a);
         let q = rng.pick(&[figure, figure, figure + 1, figure.saturating_sub(1), figure / 2, figure / 2 + 1]).max(2);
-        let s = settings(n, q, k, a, l);
+        let s = settings([n, q, k, a, l, b]);
         let mut stream = Stream::new(s, counts)?;
         let mut recent = vec![0];
-        let mut left = rng.between(20, 60 + 24 * u64::from(a)).min(20_000) as i64;
+        let mut left = rng.between(20, 60 + 24 * u64::from(a * b)).min(20_000) as i64;
         while left > 0 {
-            let control = stream.pair.library.control;
-            let at = (control.head + rng.below(2) as u32) % q;
+            let at = (stream.pair.library.control.head + rng.below(2) as u32) % q;
             let guest = u32::from(stream.pair.library.reverse[at as usize]);
             let any = rng.below(u64::from(n)) as u32;
             let row = match rng.below(4) {
@@ -167,8 +201,10 @@ pub fn hammer(rng: &mut Rng, a: u32, calls: u64, counts: &mut Counts) -> Result<
                     break;
                 }
             }
-            if stream.pair.library.control.acts == l || rng.once_in(12) {
-                full += u64::from(stream.watcher.tally.figures().quarantines == u64::from(l / a));
+            let ended = stream.pair.library.control.acts[..b as usize].iter().all(|&acts| acts == l);
+            if ended || rng.once_in(12 * u64::from(b)) {
+                let equal = l >= a && stream.watcher.tally.figures().quarantines == s.figure();
+                full[usize::from(b > 1)] += u64::from(equal);
                 stream.step(TICK)?;
                 epochs += 1;
                 roomy_epochs += u64::from(q >= figure);
@@ -180,9 +216,13 @@ pub fn hammer(rng: &mut Rng, a: u32, calls: u64, counts: &mut Counts) -> Result<
         most.slot = most.slot.max(stream.most.slot);
     }
     println!(
-        "  A {a:>5}: {streams:>5} streams, {epochs:>6} epochs; home {} of {}, slot {} of {}; quarantines at most L / A \
-         (equal in {full} epochs); no 9 in {roomy_epochs} epochs with Q >= 2 (L / A), {tight_spent} with less",
-        most.home, a + 2, most.slot, a + 3,
+        "  A {a:>5}: {streams:>5} streams, {epochs:>6} epochs; home {} of {}, slot {} of {}; quarantines at most B (L / A) \
+         (equal in {} epochs of one bank and {} of more); no 9 in {roomy_epochs} epochs with Q >= 2 B (L / A), \
+         {tight_spent} with less",
+        most.home, a + 2, most.slot, a + 3, full[0], full[1],
     );
+    if full.contains(&0) {
+        return Err(format!("no epoch had as many quarantines as there can be, for A = {a}: {full:?}"));
+    }
     Ok(())
 }

@@ -10,7 +10,7 @@ const BEYOND: usize = 1 << 32;
 
 /// The number of calls made; none where the machine does not give the address space.
 pub fn refused() -> Result<Option<u64>, String> {
-    let s = Settings { n: 3, q: 2, w: 4, k: 2, a: 2, l: 5 };
+    let s = Settings { n: 3, q: 2, w: 4, k: 2, a: 2, l: 5, b: 3 };
     let size = (BEYOND + 64) * 4;
     let layout = Layout::from_size_align(size, 8).map_err(|e| e.to_string())?;
     // Safety: the size is not 0.
@@ -43,8 +43,8 @@ pub fn refused() -> Result<Option<u64>, String> {
     all("store", Lent { store: bytes(20), ..lend(&mut memory) }, &mut expect);
     all("forward", Lent { forward: halves(3), ..lend(&mut memory) }, &mut expect);
     all("reverse", Lent { reverse: halves(2), ..lend(&mut memory) }, &mut expect);
-    all("rows", Lent { rows: halves(2), ..lend(&mut memory) }, &mut expect);
-    all("counts", Lent { counts: words(2), ..lend(&mut memory) }, &mut expect);
+    all("rows", Lent { rows: halves(6), ..lend(&mut memory) }, &mut expect);
+    all("counts", Lent { counts: words(6), ..lend(&mut memory) }, &mut expect);
     expect("read buffer", lend(&mut memory).read(&s, 0, bytes(4)), 6);
     expect("bytes to write", lend(&mut memory).write(&s, 0, 0, bytes(1)), 6);
     expect("column", lend(&mut memory).write(&s, 0, BEYOND, &[1]), 6);

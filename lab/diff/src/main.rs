@@ -1,12 +1,14 @@
-//! Compares the library behind include/aqua.h with an engine written a second time from documents 01 and 02. The first
+//! Compares the library of include/aqua.h with an engine written a second time from documents 01 and 02. The first
 //! argument overrides the seed. Exit status 0 only if everything agrees and every planted fault is noticed.
 
+mod banks;
 mod estimates;
 mod fixed;
 mod garbage;
 mod hammer;
 mod huge;
 mod pair;
+mod seen;
 mod sizing;
 mod sound;
 mod tally;
@@ -16,7 +18,7 @@ use model::fault::{Fault, FAULTS};
 use model::memory::Settings;
 use model::rng::Rng;
 use pair::Counts;
-use sound::{Seen, MANY};
+use seen::Seen;
 use std::process::ExitCode;
 use std::time::Instant;
 
@@ -33,30 +35,16 @@ fn sound_histories(rng: &mut Rng, counts: &mut Counts) -> Result<(), String> {
     }
     sound::lengths(rng, Fault::Nothing, counts, &mut seen)?;
     worn::largest(rng, counts, &mut seen)?;
-    // The largest settings of all; few calls, since each compares 537 megabytes.
-    let largest = Settings { n: 60_000, q: 5_500, w: 8_192, k: 4_096, a: 2, l: 8_193 };
+    // The most tracker entries, 65,536 of them, and the largest settings of all; few calls, since each compares 400
+    // kilobytes and 537 megabytes.
+    for a in [1, 2, 65_535] {
+        let l = 4_096 * a.min(332);
+        let entries = Settings { n: 1_000, q: 40, w: 1, k: 4_096, a, l, b: 16 };
+        sound::history(rng, &entries, 400, Fault::Nothing, counts, &mut seen)?;
+    }
+    let largest = Settings { n: 60_000, q: 5_500, w: 8_192, k: 4_096, a: 2, l: 8_193, b: 16 };
     sound::history(rng, &largest, 16, Fault::Nothing, counts, &mut seen)?;
-    println!(
-        "a. sound histories: {} calls in {} histories, {} epochs ended, {} quarantines, {} rows sent home, {} accesses \
-         refused with 9 and accepted after a tick, store up to {} bytes",
-        counts.total(),
-        seen.histories,
-        seen.epochs,
-        seen.quarantines,
-        seen.sent_home,
-        seen.retried_after_nine,
-        seen.store_most,
-    );
-    println!(
-        "   slots passed: in {} quarantines, more than {MANY} in {}, up to the last slot left in {}, at most {}; refused \
-         with 9 while slots were left: {}, more than {MANY} of them: {}",
-        seen.past_slots,
-        seen.past_many,
-        seen.into_the_last,
-        seen.most_passed,
-        seen.all_left_passed,
-        seen.many_left_passed,
-    );
+    seen.print(counts.total());
     seen.judge(LEAST_HITS)
 }
 
@@ -68,7 +56,8 @@ fn garbage_memory(rng: &mut Rng, counts: &mut Counts) -> Result<(), String> {
         cases += 1;
     }
     println!("b. garbage memory: {} calls on {cases} memories", counts.total() - begun);
-    println!("   reads on tables made for them, as worked out by hand: {}", fixed::scenes(counts)?);
+    let by_hand = fixed::scenes(counts)? + banks::scenes(counts)?;
+    println!("   calls on tables made for them, as worked out by hand: {by_hand}");
     match huge::refused()? {
         Some(made) => println!("   lengths past 32 bits: {made} calls refused as due"),
         None => println!("   lengths past 32 bits: not tried, the machine gives no address space for them"),
@@ -82,10 +71,16 @@ fn hammering(rng: &mut Rng, counts: &mut Counts) -> Result<(), String> {
     for a in [1, 2, 3, 4, 7, 20, 100] {
         hammer::hammer(rng, a, HAMMER_CALLS, counts)?;
     }
-    println!("   streams that attain the figures:");
-    for a in [1, 2, 3, 10, 250, 1000, 65_535] {
-        hammer::attained(a, counts)?;
+    for a in [1, 2, 3, 10, 250] {
+        (1..=16).try_for_each(|b| hammer::attained(a, b, counts))?;
     }
+    for a in [1_000, 65_535] {
+        [1, 2, 3].into_iter().try_for_each(|b| hammer::attained(a, b, counts))?;
+    }
+    println!(
+        "   streams attain A + 2 at a home, A + 3 at a slot, B (L / A) quarantines and a 9 with Q = 2 B (L / A) - 1, for A \
+         up to 250 with every B, for A = 1,000 and 65,535 with B = 1, 2 and 3"
+    );
     Ok(())
 }
 
@@ -108,7 +103,7 @@ fn planted_faults(seed: u64) -> Result<(), String> {
         }
         let shown = |shows: bool, counts: &Counts| if shows { counts.total().to_string() } else { "-".to_string() };
         let name = format!("{fault:?}");
-        println!("   {name:<28}{:>9}{:>9}", shown(sound_shows, &by_sound), shown(garbage_shows, &by_garbage));
+        println!("   {name:<36}{:>9}{:>9}", shown(sound_shows, &by_sound), shown(garbage_shows, &by_garbage));
         if !sound_shows && !garbage_shows {
             unnoticed.push(name);
         }

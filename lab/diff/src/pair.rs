@@ -3,7 +3,7 @@
 use aqua::Sum;
 use model::engine::{Model, Refusal, Served};
 use model::fault::Fault;
-use model::memory::{Answer, Call, Memory, Settings, KINDS, NONE, SIZING};
+use model::memory::{Answer, Call, Memory, Settings, BANKS, KINDS, NONE, SIZING};
 
 /// Lines of the table: accepted, then the refusals in the order in which they are judged.
 pub const LINES: [&str; 11] = [
@@ -35,24 +35,34 @@ fn reachable(kind: usize, line: usize) -> bool {
     }
 }
 
-/// Calls made, per line and kind.
+/// Calls made, per line and kind; and the accepted ones per number of banks.
 #[derive(Clone, Copy, Default)]
-pub struct Counts([[u64; KINDS.len()]; LINES.len()]);
+pub struct Counts {
+    lines: [[u64; KINDS.len()]; LINES.len()],
+    banks: [u64; BANKS],
+}
 
 impl Counts {
     pub fn total(&self) -> u64 {
-        self.0.iter().flatten().sum()
+        self.lines.iter().flatten().sum()
     }
 
     pub fn sizing(&mut self, sum: &Sum) {
-        self.0[usize::from(sum.number != 0)][SIZING] += 1;
+        self.lines[usize::from(sum.number != 0)][SIZING] += 1;
+    }
+
+    fn note(&mut self, s: &Settings, call: &Call, refusal: Option<Refusal>) {
+        self.lines[line(refusal)][call.kind()] += 1;
+        if refusal.is_none() {
+            self.banks[(s.b as usize).clamp(1, BANKS) - 1] += 1;
+        }
     }
 
     pub fn print(&self) {
         print!("{:<18}", "number");
         KINDS.iter().for_each(|kind| print!("{kind:>10}"));
         println!("{:>12}", "in all");
-        for (name, counts) in LINES.iter().zip(&self.0) {
+        for (name, counts) in LINES.iter().zip(&self.lines) {
             print!("{name:<18}");
             for (kind, count) in counts.iter().enumerate() {
                 let at = LINES.iter().position(|l| l == name).unwrap_or(0);
@@ -64,12 +74,15 @@ impl Counts {
             }
             println!("{:>12}", counts.iter().sum::<u64>());
         }
-        println!("calls compared: {}", self.total());
+        println!("calls compared: {}; accepted with 1 to {BANKS} banks: {:?}", self.total(), self.banks);
     }
 
-    /// Every line that a kind of call can reach was reached at least `least` times.
+    /// Every line that a kind of call can reach was reached at least `least` times, and so was every number of banks.
     pub fn judge(&self, least: u64) -> Result<(), String> {
-        for (at, counts) in self.0.iter().enumerate() {
+        if self.banks.iter().any(|&count| count < least) {
+            return Err("some number of banks was hit too seldom".to_string());
+        }
+        for (at, counts) in self.lines.iter().enumerate() {
             for (kind, &count) in counts.iter().enumerate() {
                 if reachable(kind, at) && count < least {
                     return Err(format!("{} was hit only {count} times by {}", LINES[at], KINDS[kind]));
@@ -90,11 +103,11 @@ pub struct Pair {
     pub buffer: Vec<u8>,
 }
 
-fn access(model: &Model, asked: u32, served: &Result<Served, Refusal>) -> (Answer, Option<Refusal>) {
+fn access(model: &Model, s: &Settings, asked: u32, served: &Result<Served, Refusal>) -> (Answer, Option<Refusal>) {
     let slot_or_row = |n: Option<usize>| n.map_or(NONE, |n| n as u32);
     match served {
         Err(r) => {
-            let estimate = model.refused_estimate(asked, *r).unwrap_or(0);
+            let estimate = model.refused_estimate(s, asked, *r).unwrap_or(0);
             (Answer { estimate, ..Answer::bare(r.number()) }, Some(*r))
         }
         Ok(s) => {
@@ -132,14 +145,14 @@ impl Pair {
                 self.buffer = blank(*length);
                 expected_buffer = blank(*length);
                 let expected = self.model.read(s, *row, &mut expected_buffer);
-                (lent.read(s, *row, &mut self.buffer), access(&self.model, *row, &expected))
+                (lent.read(s, *row, &mut self.buffer), access(&self.model, s, *row, &expected))
             }
             Call::Write { row, column, bytes } => {
                 let expected = self.model.write(s, *row, *column, bytes);
-                (lent.write(s, *row, *column, bytes), access(&self.model, *row, &expected))
+                (lent.write(s, *row, *column, bytes), access(&self.model, s, *row, &expected))
             }
         };
-        counts.0[line(refusal)][call.kind()] += 1;
+        counts.note(s, call, refusal);
         let found = if got != expected {
             Some(format!("answer: library {got:?}, model {expected:?}"))
         } else if self.buffer != expected_buffer {

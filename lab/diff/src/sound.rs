@@ -3,59 +3,12 @@
 
 use crate::estimates::Estimates;
 use crate::pair::{Counts, Pair};
+use crate::seen::Seen;
 use crate::tally::{self, Figures, Tally};
 use crate::worn;
 use model::fault::Fault;
 use model::memory::{Answer, Call, Memory, Settings, NONE};
 use model::rng::Rng;
-
-/// What the watcher saw over many histories.
-#[derive(Default)]
-pub struct Seen {
-    pub histories: u64,
-    pub epochs: u64,
-    pub quarantines: u64,
-    pub sent_home: u64,
-    /// Rows moved past at least one slot, past more than 16 slots, and past others into the last slot left.
-    pub past_slots: u64,
-    pub past_many: u64,
-    pub into_the_last: u64,
-    /// Most slots that one row was moved past.
-    pub most_passed: u32,
-    /// Accesses refused with 9 while slots were left, and while more than 16 were left.
-    pub all_left_passed: u64,
-    pub many_left_passed: u64,
-    pub retried_after_nine: u64,
-    pub store_most: usize,
-}
-
-/// The library's search for a slot takes another way where this many slots were passed.
-pub const MANY: u32 = 16;
-
-impl Seen {
-    /// How the search for a slot ended: `passed` before the access and after it.
-    fn search(&mut self, q: u32, before: u32, after: u32, number: u32) {
-        if number == 9 {
-            self.all_left_passed += u64::from(before < q);
-            self.many_left_passed += u64::from(before + MANY < q);
-        } else {
-            let slots = after - before - 1;
-            self.past_slots += u64::from(slots > 0);
-            self.past_many += u64::from(slots > MANY);
-            self.into_the_last += u64::from(slots > 0 && after == q);
-            self.most_passed = self.most_passed.max(slots);
-        }
-    }
-
-    /// Each way in which the search can end was met at least `least` times.
-    pub fn judge(&self, least: u64) -> Result<(), String> {
-        let met = [self.past_slots, self.past_many, self.into_the_last, self.all_left_passed, self.many_left_passed];
-        if met.iter().any(|&times| times < least) {
-            return Err(format!("ways in which the search for a slot ends were met only {met:?} times"));
-        }
-        Ok(())
-    }
-}
 
 /// The watcher: it sees calls and answers only, and `spill`.
 pub struct Watcher {
@@ -98,13 +51,19 @@ impl Watcher {
                 }
             }
         }
-        self.estimates.feed(s, call, answer, pair.library.control.spill)?;
+        self.estimates.feed(s, call, answer, &pair.library.control)?;
         let figures = self.tally.feed(call, answer);
         if let Some(figures) = &figures {
             tally::judge(s, figures)?;
         }
         Ok(figures)
     }
+}
+
+/// B: often 1, otherwise any, few more often than many.
+pub fn banks(rng: &mut Rng) -> u64 {
+    let (few, any) = (rng.between(2, 5), rng.between(1, 16));
+    rng.pick(&[1, few, any])
 }
 
 /// Settings in range, from every edge, with a store of at most `cap` bytes.
@@ -120,14 +79,19 @@ pub fn settings(rng: &mut Rng, cap: u64) -> Settings {
         let a = if rng.once_in(4) { rng.skewed(1, 65_535) } else { rng.between(1, 6) };
         let most = (a * (k + 1) - 1).min(1_360_000);
         let l = if rng.once_in(2) { most } else { rng.skewed(1, most) };
-        let [n, q, w, k, a, l] = [n, q, w, k, a, l].map(|x| x as u32);
-        return Settings { n, q, w, k, a, l };
+        let [n, q, w, k, a, l, b] = [n, q, w, k, a, l, banks(rng)].map(|x| x as u32);
+        return Settings { n, q, w, k, a, l, b };
     }
 }
 
 enum Pattern {
     Hammer(u32),
-    RoundRobin { from: u32, width: u32 },
+    /// Rows in turn, each so far from the last.
+    RoundRobin {
+        from: u32,
+        width: u32,
+        apart: u32,
+    },
     Alternate(u32, u32),
     JustMoved,
     AtHead,
@@ -148,7 +112,7 @@ impl Driver {
                 0 | 1 => Pattern::Hammer(any(rng)),
                 2 => {
                     let width = rng.pick(&[2, 3, s.k, s.k + 1, s.q, s.q + 1]).min(s.n);
-                    Pattern::RoundRobin { from: any(rng), width }
+                    Pattern::RoundRobin { from: any(rng), width, apart: rng.pick(&[1, s.b]) }
                 }
                 3 => Pattern::Alternate(any(rng), any(rng)),
                 4 | 5 => Pattern::JustMoved,
@@ -161,7 +125,7 @@ impl Driver {
         self.step = self.step.wrapping_add(1);
         match self.pattern {
             Pattern::Hammer(row) => row,
-            Pattern::RoundRobin { from, width } => (from + self.step % width) % s.n,
+            Pattern::RoundRobin { from, width, apart } => (from + self.step % width * apart) % s.n,
             Pattern::Alternate(one, other) => {
                 if self.step.is_multiple_of(2) {
                     one
@@ -185,7 +149,7 @@ impl Driver {
     fn call(&mut self, rng: &mut Rng, s: &Settings, memory: &Memory, recent: &[u32]) -> Call {
         let w = s.w as usize;
         let row = self.row(rng, s, memory, recent);
-        let epoch = u64::from(s.l).min(u64::from(s.a) * u64::from(s.q)).clamp(4, 4000);
+        let epoch = u64::from(s.l * s.b).min(u64::from(s.a) * u64::from(s.q)).clamp(4, 4000);
         match rng.below(100) {
             0..=1 => {
                 let row = rng.pick(&[s.n, s.n + 1, 65_535, 65_536, u32::MAX]);
@@ -249,11 +213,9 @@ impl<'a> History<'a> {
     }
 
     pub fn step(&mut self, call: &Call) -> Result<Answer, String> {
-        let passed = self.pair.library.control.passed;
+        let before = self.pair.library.control;
         let answer = self.pair.call(&self.s, call, self.counts)?;
-        if answer.slot != NONE || answer.number == 9 {
-            self.seen.search(self.s.q, passed, self.pair.library.control.passed, answer.number);
-        }
+        self.seen.note(&self.s, call, &answer, &before, &self.pair.library.control);
         let ended = self.watcher.see(&self.s, call, &answer, &self.pair)?;
         self.seen.epochs += u64::from(ended.is_some());
         match call {
@@ -262,10 +224,8 @@ impl<'a> History<'a> {
                 self.watcher = Watcher::new(&self.s, &self.pair.library.store);
             }
             Call::Read { row, .. } | Call::Write { row, .. } if answer.slot != NONE => {
-                self.seen.quarantines += 1;
                 self.recent.insert(0, *row);
                 if answer.row != NONE {
-                    self.seen.sent_home += 1;
                     self.recent.insert(0, answer.row);
                 }
                 self.recent.truncate(4);
@@ -313,7 +273,7 @@ pub fn random(rng: &mut Rng, fault: Fault, counts: &mut Counts, seen: &mut Seen)
     }
     let cap = if rng.once_in(40) { 1 << 21 } else { 1 << 16 };
     let s = settings(rng, cap);
-    let cost = Memory::raw(&s, 0).bytes() as u64 + 16 * u64::from(s.k);
+    let cost = Memory::raw(&s, 0).bytes() as u64 + 16 * s.entries() as u64;
     let calls = (24_000_000 / (cost + 1)).clamp(40, 4000);
     history(rng, &s, calls, fault, counts, seen)
 }
@@ -321,8 +281,10 @@ pub fn random(rng: &mut Rng, fault: Fault, counts: &mut Counts, seen: &mut Seen)
 /// Histories with rows of the lengths at which the library's copies take another way, and of those beside them.
 pub fn lengths(rng: &mut Rng, fault: Fault, counts: &mut Counts, seen: &mut Seen) -> Result<(), String> {
     for w in [255, 256, 257, 511, 512, 513, 4_095, 4_096, 4_097, 8_191, 8_192] {
-        let s = Settings { n: 6, q: 4, w, k: 3, a: 2, l: 7 };
-        history(rng, &s, 2_000, fault, counts, seen)?;
+        for b in [1, 3] {
+            let s = Settings { n: 6, q: 4, w, k: 3, a: 2, l: 7, b };
+            history(rng, &s, 1_000, fault, counts, seen)?;
+        }
     }
     Ok(())
 }

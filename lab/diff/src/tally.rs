@@ -90,7 +90,7 @@ impl Tally {
     }
 
     /// Openings of one physical row in the epoch so far.
-    pub fn opened(&self, physical: usize) -> u64 {
+    fn opened(&self, physical: usize) -> u64 {
         self.openings[physical] - self.openings_then[physical]
     }
 
@@ -106,10 +106,11 @@ impl Tally {
     }
 }
 
-/// Judges an epoch's figures by demand 3's bounds; a slot's is that of document 02, Ask 4.
+/// Judges an epoch's figures by demand 3's bounds; a slot's is that of document 02, Ask 4, and the quarantines are at
+/// most B times 01's figure, "and so are the slots needed" (Ask 5).
 pub fn judge(s: &Settings, f: &Figures) -> Result<(), String> {
     let a = u64::from(s.a);
-    let most = u64::from(s.l / s.a);
+    let most = s.figure();
     let holds =
         f.home <= a + 2 && f.slot <= a + 3 && f.quarantines <= most && (u64::from(s.q) < 2 * most || f.spent == 0);
     if holds {

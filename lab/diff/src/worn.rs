@@ -3,12 +3,14 @@
 //! slot before the worn ones; so a run of worn slots has at most half of all.
 
 use crate::pair::Counts;
-use crate::sound::{History, Seen};
+use crate::seen::Seen;
+use crate::sound::{banks, History};
 use model::fault::Fault;
 use model::memory::{Call, Settings, NONE};
 use model::rng::Rng;
 
-/// Settings with more rows at home than in slots, and mostly with an entry for each row that an epoch moves.
+/// Settings with more rows at home than in slots, and mostly with an entry for each row that an epoch moves, in whatever
+/// bank.
 fn settings(rng: &mut Rng) -> Settings {
     let q = match rng.below(8) {
         0 => rng.between(2, 4),
@@ -17,11 +19,12 @@ fn settings(rng: &mut Rng) -> Settings {
         _ => rng.between(34, 80),
     };
     let n = 2 * q + rng.between(1, 8);
-    let k = rng.pick(&[q, q + 1, q + 8, 2 * q, q.div_ceil(2)]);
+    let b = banks(rng);
+    let k = rng.pick(&[q, q + 1, q + 8, 2 * q, q.div_ceil(2)]).div_ceil(b);
     let a = rng.pick(&[1, 1, 2, 3, 5]);
     let w = rng.pick(&[1, 1, 2, 9]);
-    let [n, q, w, k, a, l] = [n, q, w, k, a, a * (k + 1) - 1].map(|x| x as u32);
-    Settings { n, q, w, k, a, l }
+    let [n, q, w, k, a, l, b] = [n, q, w, k, a, a * (k + 1) - 1, b].map(|x| x as u32);
+    Settings { n, q, w, k, a, l, b }
 }
 
 /// Reads a row some times, or until a read is refused; gives that read's number, else 0.
@@ -76,20 +79,20 @@ fn epoch(rng: &mut Rng, history: &mut History, s: &Settings, run: Run) -> Result
         let guest = u32::from(history.memory().reverse[((head + ahead) % s.q) as usize]);
         if guest != NONE {
             let times = if run.spared > 0 && rng.once_in(run.spared) { s.a - 1 } else { s.a };
-            if burst(history, guest, times)? == 8 {
+            if burst(history, guest, times)? == 8 && s.b == 1 {
                 return Ok(());
             }
         }
     }
-    let behind = history.memory().reverse[((head + run.gap + run.length) % s.q) as usize];
+    let after = history.memory().reverse[((head + run.gap + run.length) % s.q) as usize];
     for _ in 0..rng.between(2, 6) {
         let row = match rng.below(6) {
             0 => rng.below(u64::from(s.n)) as u32,
             // The row in the slot after the run passes its own slot too.
-            1 | 2 if u32::from(behind) != NONE => u32::from(behind),
+            1 | 2 if u32::from(after) != NONE => u32::from(after),
             _ => at_home(rng, history, s),
         };
-        if burst(history, row, s.a)? == 8 {
+        if burst(history, row, s.a)? == 8 && s.b == 1 {
             return Ok(());
         }
     }
@@ -112,13 +115,17 @@ pub fn random(rng: &mut Rng, fault: Fault, counts: &mut Counts, seen: &mut Seen)
     history.end()
 }
 
-/// The most slots and entries of all: more than 2,000 worn slots in a row, with slots left after them and without.
+/// The most slots, and the most entries of one bank or the most banks: more than 2,000 worn slots in a row, with slots left
+/// after them and without.
 pub fn largest(rng: &mut Rng, counts: &mut Counts, seen: &mut Seen) -> Result<(), String> {
-    let s = Settings { n: 11_010, q: 5_500, w: 1, k: 4_096, a: 1, l: 4_096 };
-    let mut history = History::begin(rng, &s, Fault::Nothing, counts, seen)?;
-    for (gap, length) in [(2_040, 2_040), (2_750, 2_749), (2_750, 2_750)] {
-        fill(rng, &mut history, &s)?;
-        epoch(rng, &mut history, &s, Run { gap, length, spared: 0 })?;
+    for (k, b) in [(4_096, 1), (512, 16)] {
+        let s = Settings { n: 11_010, q: 5_500, w: 1, k, a: 1, l: k, b };
+        let mut history = History::begin(rng, &s, Fault::Nothing, counts, seen)?;
+        for (gap, length) in [(2_040, 2_040), (2_750, 2_749), (2_750, 2_750)] {
+            fill(rng, &mut history, &s)?;
+            epoch(rng, &mut history, &s, Run { gap, length, spared: 0 })?;
+        }
+        history.end()?;
     }
-    history.end()
+    Ok(())
 }

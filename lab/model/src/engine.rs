@@ -1,8 +1,9 @@
-//! The engine of document 01, with Asks 2 and 4 of document 02, written a second time and from these documents alone. An
+//! The engine of document 01, with Asks 2, 4 and 5 of document 02, written a second time and from these documents alone. An
 //! access is first planned without a change, so a refusal cannot leave a trace, and then carried out. It answers for any
 //! settings and any memory. One deliberate error can be planted, to show that the comparison would find it.
 
-use crate::fault::Fault;
+use crate::banks::Banks;
+use crate::fault::{Bank, Fault};
 use crate::memory::{Control, Memory, Settings};
 use crate::tracker::{step_two, Search, Tracked};
 
@@ -80,7 +81,12 @@ impl Model {
         self.fault == fault
     }
 
+    fn banks<'a>(&self, s: &'a Settings) -> Banks<'a> {
+        Banks::new(s, &self.memory, self.fault)
+    }
+
     fn judge_settings_and_lengths(&self, s: &Settings) -> Result<(), Refusal> {
+        let banks = self.banks(s);
         let ranges = [
             (s.n, 1..=60_000),
             (s.q, 2..=5_500),
@@ -89,32 +95,34 @@ impl Model {
             (s.a, 1..=65_535),
             (s.l, 1..=1_360_000),
         ];
-        if ranges.iter().any(|(value, range)| !range.contains(value)) {
+        if ranges.iter().any(|(value, range)| !range.contains(value)) || !banks.range().contains(&s.b) {
             return Err(Refusal::Setting);
         }
-        if u64::from(s.l) >= u64::from(s.a) * (u64::from(s.k) + 1) {
+        if !banks.limit_holds() {
             return Err(Refusal::Together);
         }
-        let (n, q, w, k) = (s.n as usize, s.q as usize, s.w as usize, s.k as usize);
+        let (n, q, w) = (s.n as usize, s.q as usize, s.w as usize);
         let m = &self.memory;
-        let lengths = [m.store.len(), m.forward.len(), m.reverse.len(), m.rows.len(), m.counts.len()];
-        if lengths != [(n + q) * w, n, q, k, k] {
+        let pointers_fit = [m.store.len(), m.forward.len(), m.reverse.len()] == [(n + q) * w, n, q];
+        if !pointers_fit || [m.rows.len(), m.counts.len()] != banks.lengths() {
             return Err(Refusal::Length);
         }
         Ok(())
     }
 
-    fn judge_control(&self, s: &Settings) -> Result<(), Refusal> {
-        let Control { head, passed, spill, acts } = self.memory.control;
-        let above = self.memory.counts.iter().max().is_some_and(|&most| most > acts);
-        let spill_high = spill >= s.a && !(self.planted(Fault::SpillAtThresholdTaken) && spill == s.a);
-        let counts_high = above && !self.planted(Fault::CountsNotJudged);
-        let unsound = head >= s.q || passed > s.q || acts > s.l || spill > acts || spill_high || counts_high;
-        if unsound {
-            Err(Refusal::Control)
-        } else {
+    /// The row that is called for bears on nothing here but one of the errors.
+    fn judge_control(&self, s: &Settings, row: Option<u32>) -> Result<(), Refusal> {
+        let place = row.filter(|&row| row < s.n).map(|row| self.believed_place(s, row as usize));
+        if self.banks(s).sound(&self.memory, place) {
             Ok(())
+        } else {
+            Err(Refusal::Control)
         }
+    }
+
+    /// The place of a row by its forward entry alone.
+    fn believed_place(&self, s: &Settings, row: usize) -> usize {
+        named(&self.memory.forward, row).map_or(row, |slot| s.n as usize + slot)
     }
 
     /// The slot that the row sits in, if any.
@@ -129,7 +137,8 @@ impl Model {
     /// "If that would exceed Q, the access gets 9 at 9's place", which is before the destination's 7. Where every slot is
     /// passed there is no destination, and the slots passed plus one are Q + 1.
     fn judge_journey(&self, s: &Settings, row: usize, own: Option<usize>, after: &Tracked) -> Result<Journey, Refusal> {
-        let search = Search { settings: s, before: &self.memory, after, own, fault: self.fault };
+        let place = own.map_or(row, |slot| s.n as usize + slot);
+        let search = Search { banks: &self.banks(s), before: &self.memory, after, place, own };
         let (to, rise) = search.destination().ok_or(Refusal::Spent)?;
         let most = if self.planted(Fault::SpentOneSlotEarly) { s.q - 1 } else { s.q };
         let spent = self.memory.control.passed + rise > most;
@@ -153,7 +162,7 @@ impl Model {
 
     fn plan(&self, s: &Settings, row: u32, fits: bool) -> Result<Plan, Refusal> {
         self.judge_settings_and_lengths(s)?;
-        self.judge_control(s)?;
+        self.judge_control(s, Some(row))?;
         let row_stands = row < s.n;
         if !fits && (row_stands || self.planted(Fault::SpanBeforeRow)) {
             return Err(Refusal::Span);
@@ -162,17 +171,19 @@ impl Model {
             return Err(Refusal::Row);
         }
         let row = row as usize;
-        let full = self.memory.control.acts == s.l;
-        if full && self.planted(Fault::EpochBeforePointers) {
+        let banks = self.banks(s);
+        let full = |place: usize| banks.full(&self.memory.control, row, place);
+        if self.planted(Fault::EpochBeforePointers) && full(self.believed_place(s, row)) {
             return Err(Refusal::Epoch);
         }
         let left_slot = self.judge_row_pointers(s, row)?;
-        if full {
+        let place = left_slot.map_or(row, |slot| s.n as usize + slot);
+        if full(place) {
             return Err(Refusal::Epoch);
         }
-        let place = left_slot.map_or(row, |slot| s.n as usize + slot);
         let name = if self.planted(Fault::TracksVisibleRow) { row } else { place };
-        let tracked = step_two(&self.memory, name, self.fault);
+        let bank = banks.of(if self.planted(Fault::Bank(Bank::OfRowInStepTwo)) { row } else { name });
+        let tracked = step_two(&banks, &self.memory, bank, name);
         let due = tracked.estimate.is_some_and(|estimate| {
             estimate % s.a == 0 || (self.planted(Fault::QuarantineFromThresholdOn) && estimate >= s.a)
         });
@@ -197,10 +208,11 @@ impl Model {
         self.memory.rows = rows;
         self.memory.counts = counts;
         self.memory.control.spill = spill;
-        self.memory.control.acts += 1;
+        let counted = self.banks(s).counted(row, place);
+        self.count(counted);
         let before = self.line(s, place).to_vec();
         touch(self.line(s, place));
-        let mut served = Served { place, estimate: self.told(estimate), moved_to: None, sent_home: None };
+        let mut served = Served { place, estimate: self.told(s, place, estimate), moved_to: None, sent_home: None };
         if let Some(Journey { to, rise, evicts }) = journey {
             let slot_row = s.n as usize + to;
             if let Some(guest) = evicts {
@@ -229,21 +241,28 @@ impl Model {
         served
     }
 
+    /// "`acts` rises by 1", that of a bank.
+    fn count(&mut self, bank: usize) {
+        let acts = &mut self.memory.control.acts[bank];
+        *acts = acts.wrapping_add(1);
+    }
+
     /// The estimate that is handed on; the tracker is as the access leaves it.
-    fn told(&self, estimate: Option<u32>) -> Option<u32> {
+    fn told(&self, s: &Settings, place: usize, estimate: Option<u32>) -> Option<u32> {
         match self.fault {
             Fault::EstimateBeforeAccess => estimate.map(|count| count.wrapping_sub(1)),
-            Fault::SpillForNoEstimate => estimate.or(Some(self.memory.control.spill)),
+            Fault::SpillForNoEstimate => estimate.or(Some(self.memory.control.spill[s.bank(place)])),
             Fault::EstimateOfAnotherEntry => estimate.and(self.memory.counts.first().copied()),
             _ => estimate,
         }
     }
 
     /// The estimate in the answer of a refused access: none.
-    pub fn refused_estimate(&self, row: u32, refusal: Refusal) -> Option<u32> {
+    pub fn refused_estimate(&self, s: &Settings, row: u32, refusal: Refusal) -> Option<u32> {
         let late = matches!(refusal, Refusal::Epoch | Refusal::Spent);
         if late && self.planted(Fault::RefusalHasEstimate) {
-            step_two(&self.memory, row as usize, self.fault).estimate
+            let banks = self.banks(s);
+            step_two(&banks, &self.memory, banks.of(row as usize), row as usize).estimate
         } else {
             None
         }
@@ -254,7 +273,7 @@ impl Model {
             Ok(plan) => Ok(self.carry_out(s, row as usize, plan, touch)),
             Err(refusal) => {
                 if self.planted(Fault::RefusedAccessCounts) && refusal == Refusal::Spent {
-                    self.memory.control.acts += 1;
+                    self.count(s.bank(self.believed_place(s, row as usize)));
                 }
                 Err(refusal)
             }
@@ -263,12 +282,12 @@ impl Model {
 
     pub fn set_up(&mut self, s: &Settings) -> Result<(), Refusal> {
         self.judge_settings_and_lengths(s)?;
-        let m = &mut self.memory;
-        m.forward.fill(EMPTY);
-        m.reverse.fill(EMPTY);
-        m.rows.fill(EMPTY);
-        m.counts.fill(0);
-        m.control = Control::default();
+        let cleared = self.banks(s).cleared_by_set_up();
+        self.memory.forward.fill(EMPTY);
+        self.memory.reverse.fill(EMPTY);
+        self.clear_tracker(cleared);
+        self.memory.control.head = 0;
+        self.memory.control.passed = 0;
         if self.planted(Fault::SetUpClearsStore) {
             self.memory.store.fill(0);
         }
@@ -298,27 +317,36 @@ impl Model {
         self.access(s, row, fits, |line| line.iter_mut().skip(column).zip(bytes).for_each(|(to, from)| *to = *from))
     }
 
+    /// Clears so many of the record's places for banks, and so many entries.
+    fn clear_tracker(&mut self, (places, entries): (usize, usize)) {
+        self.memory.rows[..entries].fill(EMPTY);
+        self.memory.counts[..entries].fill(0);
+        self.memory.control.spill[..places].fill(0);
+        self.memory.control.acts[..places].fill(0);
+    }
+
+    /// "The record's places for banks from B on are 0 at set-up and not looked at or changed afterwards."
     pub fn tick(&mut self, s: &Settings) -> Result<(), Refusal> {
         self.judge_settings_and_lengths(s)?;
         if !self.planted(Fault::TickNotJudged) {
-            self.judge_control(s)?;
+            self.judge_control(s, None)?;
         }
         let old = self.memory.control;
-        self.memory.rows.fill(EMPTY);
-        self.memory.counts.fill(0);
-        self.memory.control = Control {
-            head: if self.planted(Fault::TickResetsHead) { 0 } else { old.head },
-            spill: if self.planted(Fault::TickKeepsSpill) { old.spill } else { 0 },
-            passed: if self.planted(Fault::TickKeepsPassed) { old.passed } else { 0 },
-            acts: 0,
-        };
+        self.clear_tracker(self.banks(s).cleared_by_tick());
+        let control = &mut self.memory.control;
+        match self.fault {
+            Fault::TickResetsHead => *control = Control { head: 0, passed: 0, ..*control },
+            Fault::TickKeepsSpill => *control = Control { spill: old.spill, passed: 0, ..*control },
+            Fault::TickKeepsPassed => {}
+            _ => control.passed = 0,
+        }
         Ok(())
     }
 
     /// Inspect, by its first call; gives the row's place too.
     pub fn inspect(&self, s: &Settings, row: u32) -> Result<usize, Refusal> {
         self.judge_settings_and_lengths(s)?;
-        self.judge_control(s)?;
+        self.judge_control(s, Some(row))?;
         if row >= s.n {
             return Err(Refusal::Row);
         }

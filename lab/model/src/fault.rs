@@ -45,6 +45,8 @@ pub enum Fault {
     RefusalHasEstimate,
     CopyOneByteShort,
     LongestRowCutShort,
+    /// Banks are taken wrongly.
+    Bank(Bank),
 }
 
 /// Errors in which slots the head passes. That the own slot is passed follows from its count; so leaving out the clause
@@ -57,9 +59,73 @@ pub enum Wear {
     BySlotNumber,
     BeforeStepTwo,
     ByHighestEntry,
+    /// The slot is looked up in the bank of the place that the row leaves.
+    InMoversBank,
+    /// The slot is looked up in all entries, those of other banks too.
+    InEveryBank,
+    /// The slot is looked up in the bank of the slot's own number, which is no physical row.
+    InBankOfSlotNumber,
+    /// A row stays in its bank: the slots of other banks are passed.
+    OtherBanksPassed,
 }
 
-pub const FAULTS: [Fault; 48] = [
+/// Errors in which bank is looked at, and in what belongs to a bank (document 02, Ask 5).
+#[derive(Clone, Copy, PartialEq, Eq, Debug)]
+pub enum Bank {
+    /// Step 2 looks at the entries and `spill` of the row's bank, not of the place's.
+    OfRowInStepTwo,
+    /// `acts` rises in the row's bank, not in the place's.
+    OfRowCounts,
+    /// 8 looks at the row's bank, not at the place's.
+    OfRowFull,
+    /// The bank of p is p / B.
+    ByQuotient,
+    /// The bank of p is p mod 16, and from B on counted from 0 again.
+    BySixteen,
+    /// The bank of p is taken from the low bits of p, which does only for B of 1, 2, 4, 8 and 16.
+    ByLowBits,
+    /// Slot s is of bank s mod B, as if the quarantine were numbered by itself.
+    OfSlotNumber,
+    /// The entries of each bank but the first begin one entry too early.
+    EntriesFromKLessOne,
+    /// The banks' entries stand in turn, and not bank after bank.
+    EntriesByTurns,
+    FirstCounts,
+    FirstFull,
+    /// 8 comes where some bank is full.
+    AnyFull,
+    /// 8 comes where the accesses of all banks together are L or more.
+    AllTogetherFull,
+    FirstSpill,
+    /// `spill` rises in all banks.
+    SpillRisesInAll,
+    TickClearsAllPlaces,
+    TickClearsOnePlaceMore,
+    TickClearsFirstPlaceAlone,
+    TickClearsFirstEntriesAlone,
+    SetUpClearsPlacesBelow,
+    SetUpKeepsLastPlace,
+    SetUpClearsFirstEntriesAlone,
+    AllPlacesJudged,
+    OnePlaceMoreJudged,
+    LastPlaceNotJudged,
+    PlaceAloneJudged,
+    FirstAloneJudged,
+    CountsByFirst,
+    CountsByLargest,
+    SpillByFirst,
+    /// 2 is judged with the entries of all banks.
+    LimitByAllEntries,
+    LimitByAllAccesses,
+    LengthsOfOneBank,
+    RowsOfOneBank,
+    CountsOfOneBank,
+    NoBankTaken,
+    SeventeenTaken,
+    SixteenRefused,
+}
+
+pub const FAULTS: [Fault; 94] = [
     Fault::EntryStartsAtOne,
     Fault::OldReverseKept,
     Fault::SentHomeForwardKept,
@@ -73,12 +139,20 @@ pub const FAULTS: [Fault; 48] = [
     Fault::Wear(Wear::BySlotNumber),
     Fault::Wear(Wear::BeforeStepTwo),
     Fault::Wear(Wear::ByHighestEntry),
+    Fault::Wear(Wear::InMoversBank),
+    Fault::Wear(Wear::InEveryBank),
+    Fault::Wear(Wear::InBankOfSlotNumber),
+    Fault::Wear(Wear::OtherBanksPassed),
     Fault::LateWear(Wear::NotLookedAt),
     Fault::LateWear(Wear::OwnSlotTaken),
     Fault::LateWear(Wear::AboveThreshold),
     Fault::LateWear(Wear::BySlotNumber),
     Fault::LateWear(Wear::BeforeStepTwo),
     Fault::LateWear(Wear::ByHighestEntry),
+    Fault::LateWear(Wear::InMoversBank),
+    Fault::LateWear(Wear::InEveryBank),
+    Fault::LateWear(Wear::InBankOfSlotNumber),
+    Fault::LateWear(Wear::OtherBanksPassed),
     Fault::SearchEndsAtLastSlot,
     Fault::NoDestinationTakesHead,
     Fault::PassedRisesByOne,
@@ -108,4 +182,42 @@ pub const FAULTS: [Fault; 48] = [
     Fault::RefusalHasEstimate,
     Fault::CopyOneByteShort,
     Fault::LongestRowCutShort,
+    Fault::Bank(Bank::OfRowInStepTwo),
+    Fault::Bank(Bank::OfRowCounts),
+    Fault::Bank(Bank::OfRowFull),
+    Fault::Bank(Bank::ByQuotient),
+    Fault::Bank(Bank::BySixteen),
+    Fault::Bank(Bank::ByLowBits),
+    Fault::Bank(Bank::OfSlotNumber),
+    Fault::Bank(Bank::EntriesFromKLessOne),
+    Fault::Bank(Bank::EntriesByTurns),
+    Fault::Bank(Bank::FirstCounts),
+    Fault::Bank(Bank::FirstFull),
+    Fault::Bank(Bank::AnyFull),
+    Fault::Bank(Bank::AllTogetherFull),
+    Fault::Bank(Bank::FirstSpill),
+    Fault::Bank(Bank::SpillRisesInAll),
+    Fault::Bank(Bank::TickClearsAllPlaces),
+    Fault::Bank(Bank::TickClearsOnePlaceMore),
+    Fault::Bank(Bank::TickClearsFirstPlaceAlone),
+    Fault::Bank(Bank::TickClearsFirstEntriesAlone),
+    Fault::Bank(Bank::SetUpClearsPlacesBelow),
+    Fault::Bank(Bank::SetUpKeepsLastPlace),
+    Fault::Bank(Bank::SetUpClearsFirstEntriesAlone),
+    Fault::Bank(Bank::AllPlacesJudged),
+    Fault::Bank(Bank::OnePlaceMoreJudged),
+    Fault::Bank(Bank::LastPlaceNotJudged),
+    Fault::Bank(Bank::PlaceAloneJudged),
+    Fault::Bank(Bank::FirstAloneJudged),
+    Fault::Bank(Bank::CountsByFirst),
+    Fault::Bank(Bank::CountsByLargest),
+    Fault::Bank(Bank::SpillByFirst),
+    Fault::Bank(Bank::LimitByAllEntries),
+    Fault::Bank(Bank::LimitByAllAccesses),
+    Fault::Bank(Bank::LengthsOfOneBank),
+    Fault::Bank(Bank::RowsOfOneBank),
+    Fault::Bank(Bank::CountsOfOneBank),
+    Fault::Bank(Bank::NoBankTaken),
+    Fault::Bank(Bank::SeventeenTaken),
+    Fault::Bank(Bank::SixteenRefused),
 ];

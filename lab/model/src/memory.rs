@@ -1,5 +1,10 @@
 //! What the caller lends, the calls, and their answers, as plain data.
 
+use std::ops::Range;
+
+/// The control record has a place for each of so many banks, whatever the settings.
+pub const BANKS: usize = 16;
+
 #[repr(C)]
 #[derive(Clone, Copy, PartialEq, Eq, Debug)]
 pub struct Settings {
@@ -9,6 +14,29 @@ pub struct Settings {
     pub k: u32,
     pub a: u32,
     pub l: u32,
+    pub b: u32,
+}
+
+impl Settings {
+    /// "Physical row p belongs to bank p mod B."
+    pub fn bank(&self, physical: usize) -> usize {
+        physical % self.b as usize
+    }
+
+    /// "Tracker buffers hold B × K entries, bank after bank."
+    pub fn entries(&self) -> usize {
+        self.b as usize * self.k as usize
+    }
+
+    pub fn entries_of(&self, bank: usize) -> Range<usize> {
+        let k = self.k as usize;
+        bank * k..(bank + 1) * k
+    }
+
+    /// The most quarantines of an epoch.
+    pub fn figure(&self) -> u64 {
+        u64::from(self.b) * u64::from(self.l / self.a)
+    }
 }
 
 #[repr(C)]
@@ -16,9 +44,12 @@ pub struct Settings {
 pub struct Control {
     pub head: u32,
     pub passed: u32,
-    pub spill: u32,
-    pub acts: u32,
+    pub spill: [u32; BANKS],
+    pub acts: [u32; BANKS],
 }
+
+// The layouts of include/aqua.h.
+const _: () = assert!(size_of::<Settings>() == 28 && size_of::<Control>() == 136);
 
 /// All the memory that is lent from call to call.
 #[derive(Clone, PartialEq, Eq, Debug)]
@@ -39,9 +70,14 @@ impl Memory {
             store: vec![fill; (s.n as usize + s.q as usize) * s.w as usize],
             forward: vec![wide; s.n as usize],
             reverse: vec![wide; s.q as usize],
-            rows: vec![wide; s.k as usize],
-            counts: vec![u32::from(wide); s.k as usize],
-            control: Control { head: wide.into(), passed: wide.into(), spill: wide.into(), acts: wide.into() },
+            rows: vec![wide; s.entries()],
+            counts: vec![u32::from(wide); s.entries()],
+            control: Control {
+                head: wide.into(),
+                passed: wide.into(),
+                spill: [wide.into(); BANKS],
+                acts: [wide.into(); BANKS],
+            },
         }
     }
 

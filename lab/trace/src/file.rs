@@ -19,13 +19,42 @@ impl File {
 #[derive(Clone)]
 pub struct Words(pub Vec<String>);
 
-/// Where the second count stands.
-pub const SECOND_COUNT: usize = 7;
-
 impl Words {
+    /// With a first count of 6 where B is 1, and of 7 where it is not.
     pub fn new(s: &Settings, steps: &[u32]) -> Words {
-        let head = [6, s.n, s.q, s.w, s.k, s.a, s.l, steps.len() as u32];
-        Words(head.iter().chain(steps).map(u32::to_string).collect())
+        let six = [6, s.n, s.q, s.w, s.k, s.a, s.l, steps.len() as u32];
+        let words = Words(six.iter().chain(steps).map(u32::to_string).collect());
+        if s.b == 1 {
+            words
+        } else {
+            words.with_banks(s.b)
+        }
+    }
+
+    /// With a first count of 7 and the given B, which may also be 1.
+    pub fn with_banks(mut self, b: u32) -> Words {
+        if self.second_count() == 7 {
+            self.0.insert(7, b.to_string());
+        }
+        self.set(0, "7").set(7, b.to_string())
+    }
+
+    /// A trace with B = 1 can be written in two ways; now and then the longer one.
+    pub fn either(self, rng: &mut Rng) -> Words {
+        if self.second_count() == 7 && rng.once_in(3) {
+            self.with_banks(1)
+        } else {
+            self
+        }
+    }
+
+    /// Where the second count stands, with the first count as it was made.
+    pub fn second_count(&self) -> usize {
+        if self.0.first().is_some_and(|first| first == "7") {
+            8
+        } else {
+            7
+        }
     }
 
     pub fn set(mut self, at: usize, word: impl Into<String>) -> Words {
@@ -40,7 +69,7 @@ impl Words {
         self.0.join(" ").into_bytes()
     }
 
-    /// With blanks and newlines between, before and behind, and leading zeros, as the form allows.
+    /// With blanks and newlines between, before and after, and leading zeros, as the form allows.
     pub fn varied(&self, rng: &mut Rng) -> Vec<u8> {
         let mut bytes = Vec::new();
         let gap = |rng: &mut Rng, bytes: &mut Vec<u8>, least: u64| {
@@ -58,7 +87,7 @@ impl Words {
         bytes
     }
 
-    /// Filled up to a length with one byte, before the word at `before` or behind the last.
+    /// Filled up to a length with one byte, before the word at `before` or after the last.
     pub fn padded(&self, with: u8, before: usize, length: usize) -> Vec<u8> {
         let (front, back) = self.0.split_at(before.min(self.0.len()));
         let (mut bytes, back) = (front.join(" ").into_bytes(), back.join(" ").into_bytes());

@@ -1,6 +1,6 @@
 //! The errors that can be planted in the second interpreter, to show that the files find them.
 
-use model::fault::{Fault, Wear};
+use model::fault::{Bank, Fault, Wear};
 
 #[derive(Clone, Copy, PartialEq, Eq, Debug)]
 pub enum Flaw {
@@ -29,9 +29,19 @@ pub enum Flaw {
     EmptyTraceHasSettings,
     ShortFileIsEmpty,
     FirstCountNotJudged,
-    SevenSettingsTaken,
+    /// A first count of 7 is refused, as before Ask 5.
+    SevenRefused,
+    /// A first count of 8 is taken, and the eighth number left out.
+    EightTaken,
+    SixTakesSeven,
+    SevenTakesSix,
+    /// B stands before N.
+    BanksFirst,
+    BanksIgnored,
     SecondCountNotJudged,
     MostStepsRefused,
+    /// There is room for 8 + 4,096 numbers, which was enough before Ask 5.
+    OneNumberShort,
     StepsMissingTaken,
     StepsBeyondTaken,
     OneSectionTaken,
@@ -40,6 +50,16 @@ pub enum Flaw {
     StoreOneMoreTaken,
     FullStoreRefused,
     StoreSizeCutTo16Bits,
+    EntriesBeforeSettings,
+    EntriesBeforeTogether,
+    EntriesNotJudged,
+    /// K × B may be 4,098. It is 4,097 for no K and B, since that is 17 times 241.
+    EntriesTwoMoreTaken,
+    FullEntriesRefused,
+    EntriesCutTo16Bits,
+    EntriesAsSettings,
+    /// Refused only where both the store and K × B are too large.
+    OneTooLargeTaken,
     TogetherBeforeRanges,
     RefusedSettingsGoOn,
     StepFromZero,
@@ -65,9 +85,10 @@ impl Flaw {
 }
 
 /// Which entry of those with count `spill` is taken shows in no answer, and nothing here depends on bytes. A trace begins
-/// with set-up; so no row is named twice in the tracker, and no estimate is above A. Only those errors of the engine are
-/// listed that an answer can show.
-pub const FLAWS: [Flaw; 63] = [
+/// with set-up; so no row is named twice in the tracker, or in another bank than its own, no estimate is above A, and
+/// nothing but 0 stands in the record's places from B on. Where the entries of a bank lie shows only if banks share some.
+/// Only those errors of the engine are listed that an answer can show.
+pub const FLAWS: [Flaw; 104] = [
     Flaw::NumbersWrapAt32Bits,
     Flaw::NumbersWrapAt64Bits,
     Flaw::LargeNumbersCut,
@@ -92,9 +113,15 @@ pub const FLAWS: [Flaw; 63] = [
     Flaw::EmptyTraceHasSettings,
     Flaw::ShortFileIsEmpty,
     Flaw::FirstCountNotJudged,
-    Flaw::SevenSettingsTaken,
+    Flaw::SevenRefused,
+    Flaw::EightTaken,
+    Flaw::SixTakesSeven,
+    Flaw::SevenTakesSix,
+    Flaw::BanksFirst,
+    Flaw::BanksIgnored,
     Flaw::SecondCountNotJudged,
     Flaw::MostStepsRefused,
+    Flaw::OneNumberShort,
     Flaw::StepsMissingTaken,
     Flaw::StepsBeyondTaken,
     Flaw::OneSectionTaken,
@@ -103,6 +130,14 @@ pub const FLAWS: [Flaw; 63] = [
     Flaw::StoreOneMoreTaken,
     Flaw::FullStoreRefused,
     Flaw::StoreSizeCutTo16Bits,
+    Flaw::EntriesBeforeSettings,
+    Flaw::EntriesBeforeTogether,
+    Flaw::EntriesNotJudged,
+    Flaw::EntriesTwoMoreTaken,
+    Flaw::FullEntriesRefused,
+    Flaw::EntriesCutTo16Bits,
+    Flaw::EntriesAsSettings,
+    Flaw::OneTooLargeTaken,
     Flaw::TogetherBeforeRanges,
     Flaw::RefusedSettingsGoOn,
     Flaw::StepFromZero,
@@ -124,11 +159,38 @@ pub const FLAWS: [Flaw; 63] = [
     Flaw::Engine(Fault::Wear(Wear::OwnSlotTaken)),
     Flaw::Engine(Fault::Wear(Wear::AboveThreshold)),
     Flaw::Engine(Fault::Wear(Wear::BySlotNumber)),
+    Flaw::Engine(Fault::Wear(Wear::InMoversBank)),
+    Flaw::Engine(Fault::Wear(Wear::InBankOfSlotNumber)),
+    Flaw::Engine(Fault::Wear(Wear::OtherBanksPassed)),
     Flaw::Engine(Fault::LateWear(Wear::NotLookedAt)),
     Flaw::Engine(Fault::LateWear(Wear::OwnSlotTaken)),
+    Flaw::Engine(Fault::LateWear(Wear::InMoversBank)),
+    Flaw::Engine(Fault::LateWear(Wear::InBankOfSlotNumber)),
+    Flaw::Engine(Fault::LateWear(Wear::OtherBanksPassed)),
     Flaw::Engine(Fault::SearchEndsAtLastSlot),
     Flaw::Engine(Fault::NoDestinationTakesHead),
     Flaw::Engine(Fault::PassedRisesByOne),
     Flaw::Engine(Fault::SpentOneSlotEarly),
     Flaw::Engine(Fault::RefusedAccessCounts),
+    Flaw::Engine(Fault::Bank(Bank::OfRowInStepTwo)),
+    Flaw::Engine(Fault::Bank(Bank::OfRowCounts)),
+    Flaw::Engine(Fault::Bank(Bank::OfRowFull)),
+    Flaw::Engine(Fault::Bank(Bank::ByQuotient)),
+    Flaw::Engine(Fault::Bank(Bank::BySixteen)),
+    Flaw::Engine(Fault::Bank(Bank::ByLowBits)),
+    Flaw::Engine(Fault::Bank(Bank::OfSlotNumber)),
+    Flaw::Engine(Fault::Bank(Bank::EntriesFromKLessOne)),
+    Flaw::Engine(Fault::Bank(Bank::FirstCounts)),
+    Flaw::Engine(Fault::Bank(Bank::FirstFull)),
+    Flaw::Engine(Fault::Bank(Bank::AnyFull)),
+    Flaw::Engine(Fault::Bank(Bank::AllTogetherFull)),
+    Flaw::Engine(Fault::Bank(Bank::FirstSpill)),
+    Flaw::Engine(Fault::Bank(Bank::SpillRisesInAll)),
+    Flaw::Engine(Fault::Bank(Bank::TickClearsFirstPlaceAlone)),
+    Flaw::Engine(Fault::Bank(Bank::TickClearsFirstEntriesAlone)),
+    Flaw::Engine(Fault::Bank(Bank::LimitByAllEntries)),
+    Flaw::Engine(Fault::Bank(Bank::LimitByAllAccesses)),
+    Flaw::Engine(Fault::Bank(Bank::NoBankTaken)),
+    Flaw::Engine(Fault::Bank(Bank::SeventeenTaken)),
+    Flaw::Engine(Fault::Bank(Bank::SixteenRefused)),
 ];

@@ -1,14 +1,14 @@
 //! Files at the limits: large settings and long traces, the longest files, numbers too large for a word, settings
 //! refused.
 
-use crate::file::{File, Words, SECOND_COUNT};
+use crate::file::{File, Words};
 use crate::interpret::{FILE_MOST, STEPS_MOST, TICK};
 use crate::sound::{chase, settings, small};
 use model::memory::Settings;
 use model::rng::Rng;
 
-/// A limit of each setting, in the order of the file.
-const RANGES: [(u32, u32); 6] = [(1, 60_000), (2, 5_500), (1, 8_192), (1, 4_096), (1, 65_535), (1, 1_360_000)];
+/// The limits of each setting, in the order of the file.
+const RANGES: [(u32, u32); 7] = [(1, 60_000), (2, 5_500), (1, 8_192), (1, 4_096), (1, 65_535), (1, 1_360_000), (1, 16)];
 
 /// Hammering streams of some hundred steps.
 fn hammering(rng: &mut Rng, files: &mut Vec<File>) {
@@ -21,7 +21,7 @@ fn hammering(rng: &mut Rng, files: &mut Vec<File>) {
             s.l = 1;
         }
         let length = rng.between(100, 700) as usize;
-        files.push(File::new("hammering", Words::new(&s, &chase(rng, &s, length)).varied(rng)));
+        files.push(File::new("hammering", Words::new(&s, &chase(rng, &s, length)).either(rng).varied(rng)));
     }
 }
 
@@ -43,17 +43,41 @@ fn stores(rng: &mut Rng, files: &mut Vec<File>) {
             }
         }
     }
-    let largest = Settings { n: 60_000, q: 5_500, w: 8_192, k: 4_096, a: 65_535, l: 1_360_000 };
-    files.push(File::new("store near its limit", Words::new(&largest, &[1, 2, 3]).plain()));
+    for b in [1, 2, 16] {
+        let largest = Settings { n: 60_000, q: 5_500, w: 8_192, k: 4_096, a: 65_535, l: 1_360_000, b };
+        files.push(File::new("store near its limit", Words::new(&largest, &[1, 2, 3]).plain()));
+    }
 }
 
-/// The largest traces: 4,096 steps, 4,096 tracker entries, as many rows as the store allows.
+/// K × B at 4,096, just below and just above, up to 65,536; with settings that are refused, and with too large a store.
+fn entries(rng: &mut Rng, files: &mut Vec<File>) {
+    for b in (1..=17).chain(1..=17) {
+        let limit = 4_096 / b;
+        for k in [limit - 1, limit, limit + 1, 2 * limit, 3 * limit + 7, 4_096, 4_097] {
+            let a = rng.between(1, 3) as u32;
+            let s = Settings { n: 40, q: 6, w: 1, k, a, l: a * (k + 1) - 1, b };
+            let steps: Vec<u32> = (0..40).map(|at| rng.pick(&[at, at % 7, 3, TICK])).collect();
+            let words = Words::new(&s, &steps).either(rng);
+            files.push(File::new("K times B near its limit", words.plain()));
+            let refused = words.clone().set(6, (a * (k + 1)).to_string());
+            files.push(File::new("K times B and L", refused.plain()));
+            files.push(File::new("K times B and the store", words.clone().set(3, "713").plain()));
+            files.push(File::new("K times B and Q", words.set(2, "1").plain()));
+        }
+    }
+}
+
+/// The largest traces: 4,096 steps, 4,096 tracker entries, in one bank or in more, as many rows as the store allows.
 fn largest(rng: &mut Rng, files: &mut Vec<File>) {
     let shapes = [(27_268, 5_500, 1), (32_766, 2, 1), (2, 2, 8_192), (1, 3, 8_192), (60, 4, 512), (8_000, 192, 4)];
     for (n, q, w) in shapes {
         for (k, a) in [(4_096, 1), (4_096, 2), (1, 4_095), (16, 20)] {
             let s = settings(rng, n, q, w, k, a);
             files.push(File::new("largest", Words::new(&s, &chase(rng, &s, STEPS_MOST)).plain()));
+        }
+        for (k, b) in [(256, 16), (2_048, 2), (1, 16), (4_096, 1)] {
+            let s = Settings { b, ..settings(rng, n, q, w, k, 2) };
+            files.push(File::new("largest", Words::new(&s, &chase(rng, &s, STEPS_MOST)).with_banks(b).plain()));
         }
         let s = settings(rng, n, q, w, 1_000, 1);
         let steps: Vec<u32> =
@@ -68,10 +92,10 @@ fn long(rng: &mut Rng, files: &mut Vec<File>) {
         for with in *b" \n0" {
             for _ in 0..5 {
                 let s = small(rng);
-                let words = Words::new(&s, &chase(rng, &s, 20));
-                let last = words.0.len();
+                let words = Words::new(&s, &chase(rng, &s, 20)).either(rng);
+                let (second, last) = (words.second_count(), words.0.len());
                 let any = rng.below(last as u64) as usize;
-                let before = rng.pick(&[0, 1, 6, SECOND_COUNT, last - 1, any]);
+                let before = rng.pick(&[0, 1, second - 1, second, last - 1, any]);
                 files.push(File::new("long", words.padded(with, before, length)));
                 if with != b'0' {
                     files.push(File::new("long", words.padded(with, last, length)));
@@ -82,9 +106,12 @@ fn long(rng: &mut Rng, files: &mut Vec<File>) {
         files.push(File::new("long, one number", vec![b'0'; length]));
     }
     // As many steps as a file may hold, filled up to the limit.
-    let s = Settings { n: 9, q: 2, w: 1, k: 1, a: 9, l: 9 };
-    let steps: Vec<u32> = (0..STEPS_MOST as u32).map(|at| at % 9).collect();
-    files.push(File::new("long", Words::new(&s, &steps).padded(b'0', SECOND_COUNT + 1, FILE_MOST)));
+    for b in [1, 2] {
+        let s = Settings { n: 9, q: 2, w: 1, k: 1, a: 9, l: 9, b };
+        let steps: Vec<u32> = (0..STEPS_MOST as u32).map(|at| at % 9).collect();
+        let words = Words::new(&s, &steps);
+        files.push(File::new("long", words.padded(b'0', words.second_count() + 1, FILE_MOST)));
+    }
 }
 
 /// 10 to the power `zeros`, plus a small number.
@@ -95,14 +122,14 @@ fn power(zeros: usize, plus: u32) -> String {
 /// Numbers of many digits, in each place of a file.
 fn large_numbers(rng: &mut Rng, files: &mut Vec<File>) {
     let powers = ["4294967295", "4294967296", "18446744073709551615", "18446744073709551616"];
-    for at in 0..12 {
+    for at in (0..13).chain(0..13) {
         let s = small(rng);
-        let words = Words::new(&s, &chase(rng, &s, 6));
+        let words = Words::new(&s, &chase(rng, &s, 6)).either(rng);
         let Some(old) = words.0.get(at).cloned() else { continue };
         let value: u64 = old.parse().unwrap_or(0);
         let mut put = |word: String| files.push(File::new("large number", words.clone().set(at, word).varied(rng)));
         powers.iter().for_each(|power| put(power.to_string()));
-        // The number itself, behind zeros; the number plus 2 to the 32 and to the 64.
+        // The number itself, after zeros; the number plus 2 to the 32 and to the 64.
         [10, 30, 200, 400, 3_000].iter().for_each(|&zeros| put(format!("{}{old}", "0".repeat(zeros))));
         put((value + (1 << 32)).to_string());
         put((u128::from(value) + (1 << 64)).to_string());
@@ -123,14 +150,15 @@ fn large_numbers(rng: &mut Rng, files: &mut Vec<File>) {
 fn refused_settings(rng: &mut Rng, files: &mut Vec<File>) {
     let good = |rng: &mut Rng| {
         let s = small(rng);
-        Words::new(&s, &chase(rng, &s, 5))
+        Words::new(&s, &chase(rng, &s, 5)).either(rng)
     };
     for (at, (low, high)) in (1..).zip(RANGES) {
         let edges = [low - 1, low, high, high + 1, 0, 65_535, 65_536, 65_537, 1 << 31, u32::MAX];
         for edge in edges {
-            let words = good(rng).set(at, edge.to_string());
+            // The seventh setting needs a first count of 7.
+            let words = if at == 7 { good(rng).with_banks(edge) } else { good(rng).set(at, edge.to_string()) };
             files.push(File::new("setting at an edge", words.plain()));
-            let other = rng.between(1, 6) as usize;
+            let other = rng.between(1, words.second_count() as u64 - 1) as usize;
             let far = rng.word() as u32;
             let wild = rng.pick(&[0, 1 << 16, 1 << 31, u32::MAX, far]);
             files.push(File::new("settings at edges", words.set(other, wild.to_string()).plain()));
@@ -147,12 +175,12 @@ fn refused_settings(rng: &mut Rng, files: &mut Vec<File>) {
         }
         files.push(File::new("L near A (K + 1)", words.plain()));
     }
-    // N + Q, N times W, A times K + 1 and (N + Q) times W past 32 bits, so that they would come out small.
+    // N + Q, N times W, A times K + 1, (N + Q) times W and K times B past 32 bits, so that they would come out small.
     let large = ["4294967295", "4294967294", "2147483648", "65536", "1431655766", "4294934528"];
     for _ in 0..100 {
         let mut words = good(rng);
         for _ in 0..rng.between(1, 4) {
-            let at = rng.between(1, 6) as usize;
+            let at = rng.between(1, words.second_count() as u64 - 1) as usize;
             words = words.set(at, rng.pick(&large));
         }
         files.push(File::new("products past 32 bits", words.plain()));
@@ -166,9 +194,10 @@ fn counts_of_steps(rng: &mut Rng, files: &mut Vec<File>) {
             let s = small(rng);
             let row = rng.below(u64::from(s.n)) as u32;
             for step in [row, TICK, u32::MAX] {
-                files.push(File::new("one step repeated", Words::new(&s, &vec![step; length]).plain()));
+                let words = Words::new(&s, &vec![step; length]).either(rng);
+                files.push(File::new("one step repeated", words.plain()));
             }
-            files.push(File::new("chase", Words::new(&s, &chase(rng, &s, length)).varied(rng)));
+            files.push(File::new("chase", Words::new(&s, &chase(rng, &s, length)).either(rng).varied(rng)));
         }
     }
 }
@@ -177,6 +206,7 @@ pub fn files(rng: &mut Rng) -> Vec<File> {
     let mut files = Vec::new();
     hammering(rng, &mut files);
     stores(rng, &mut files);
+    entries(rng, &mut files);
     largest(rng, &mut files);
     long(rng, &mut files);
     large_numbers(rng, &mut files);

@@ -1,13 +1,14 @@
-//! The trace program of document 01, with the empty trace of document 02, written a second time and from these documents
-//! alone, over the second engine: bytes in, bytes out. One deliberate error can be planted.
+//! The trace program of document 01, with the empty trace and the banks of document 02, written a second time and from
+//! these documents alone, over the second engine: bytes in, bytes out. One deliberate error can be planted.
 
 use crate::flaw::Flaw;
 use model::engine::{Model, Refusal, Served};
-use model::memory::{Control, Memory, Settings};
+use model::memory::{Control, Memory, Settings, BANKS};
 use std::fmt::Write;
 
 pub const FILE_MOST: usize = 65_536;
-pub const STORE_MOST: u64 = 32_768;
+const STORE_MOST: u64 = 32_768;
+pub const ENTRIES_MOST: u64 = 4_096;
 pub const STEPS_MOST: usize = 4_096;
 pub const TICK: u32 = 65_535;
 
@@ -22,6 +23,8 @@ pub enum Verdict {
     Settings(u32),
     /// The store is too large.
     Store,
+    /// There are too many tracker entries, K × B.
+    Entries,
     Ran(Seen),
 }
 
@@ -35,6 +38,34 @@ pub struct Seen {
     pub past_slots: u64,
     pub past_many: u64,
     pub sent_home: u64,
+    /// B of the trace; rows moved to a slot of another bank; and reads refused with 8 while the home's bank had room.
+    pub banks: u32,
+    pub to_other_bank: u64,
+    pub slot_full: u64,
+}
+
+impl Seen {
+    /// Takes in a read, with the control record before and after it. B may be one that an error has taken.
+    fn read(&mut self, s: &Settings, row: u32, answer: &Result<Served, Refusal>, before: &Control, after: &Control) {
+        let bank = |physical: usize| physical % (s.b as usize).clamp(1, BANKS);
+        match answer {
+            Ok(Served { place, moved_to, sent_home, .. }) => {
+                let rise = after.passed.saturating_sub(before.passed);
+                self.reads[0] += 1;
+                self.moved += u64::from(moved_to.is_some());
+                self.sent_home += u64::from(sent_home.is_some());
+                self.past_slots += u64::from(rise > 1);
+                self.past_many += u64::from(rise > 17);
+                let other = moved_to.is_some_and(|slot| bank(s.n as usize + slot) != bank(*place));
+                self.to_other_bank += u64::from(other);
+            }
+            Err(refusal) => {
+                self.reads[refusal.number() as usize % 10] += 1;
+                let room = before.acts[bank(row as usize)] < s.l;
+                self.slot_full += u64::from(*refusal == Refusal::Epoch && room);
+            }
+        }
+    }
 }
 
 pub struct Printed {
@@ -124,17 +155,40 @@ enum Form {
     Trace(Settings, Vec<u32>),
 }
 
-/// The two sections: six settings, and the steps.
-fn sections(numbers: &[u32], flaw: Flaw) -> Option<(Settings, Vec<u32>)> {
+/// The first section, and what follows it: "A trace whose first count is 6 has B = 1; with 7 the seventh number is B."
+fn first_section(numbers: &[u32], flaw: Flaw) -> Option<(Settings, &[u32])> {
     let (&count, rest) = numbers.split_first()?;
-    let rest = if flaw == Flaw::SevenSettingsTaken && count == 7 && rest.len() > 7 { &rest[1..] } else { rest };
-    let count_fits =
-        count == 6 || flaw == Flaw::FirstCountNotJudged || (flaw == Flaw::SevenSettingsTaken && count == 7);
-    let (&[n, q, w, k, a, l], rest) = rest.split_first_chunk::<6>()?;
-    let settings = Settings { n, q, w, k, a, l };
-    if !count_fits {
+    let six = || {
+        let (&[n, q, w, k, a, l], rest) = rest.split_first_chunk::<6>()?;
+        Some((Settings { n, q, w, k, a, l, b: 1 }, rest))
+    };
+    let seven = || {
+        let (&[n, q, w, k, a, l, b], rest) = rest.split_first_chunk::<7>()?;
+        Some((Settings { n, q, w, k, a, l, b }, rest))
+    };
+    match (count, flaw) {
+        (6, Flaw::SixTakesSeven) => seven(),
+        (7, Flaw::SevenRefused) => None,
+        (7, Flaw::SevenTakesSix) => six(),
+        (7, Flaw::BanksIgnored) => seven().map(|(s, rest)| (Settings { b: 1, ..s }, rest)),
+        (7, Flaw::BanksFirst) => {
+            let (&[b, n, q, w, k, a, l], rest) = rest.split_first_chunk::<7>()?;
+            Some((Settings { n, q, w, k, a, l, b }, rest))
+        }
+        (8, Flaw::EightTaken) => seven().and_then(|(s, rest)| Some((s, rest.get(1..)?))),
+        (6, _) => six(),
+        (7, _) => seven(),
+        (_, Flaw::FirstCountNotJudged) => six(),
+        _ => None,
+    }
+}
+
+/// The two sections: the settings, and the steps.
+fn sections(numbers: &[u32], flaw: Flaw) -> Option<(Settings, Vec<u32>)> {
+    if flaw == Flaw::OneNumberShort && numbers.len() > 8 + STEPS_MOST {
         return None;
     }
+    let (settings, rest) = first_section(numbers, flaw)?;
     let Some((&count, steps)) = rest.split_first() else {
         return (flaw == Flaw::OneSectionTaken).then_some((settings, Vec::new()));
     };
@@ -184,6 +238,28 @@ fn store_fits(s: &Settings, flaw: Flaw) -> bool {
     }
 }
 
+/// "K × B above 4,096 prints `trace refused`, judged with the store's size."
+fn entries_fit(s: &Settings, flaw: Flaw) -> bool {
+    let entries = u64::from(s.k) * u64::from(s.b);
+    match flaw {
+        Flaw::EntriesNotJudged => true,
+        Flaw::EntriesTwoMoreTaken => entries <= ENTRIES_MOST + 2,
+        Flaw::FullEntriesRefused => entries < ENTRIES_MOST,
+        Flaw::EntriesCutTo16Bits => entries % (1 << 16) <= ENTRIES_MOST,
+        _ => entries <= ENTRIES_MOST,
+    }
+}
+
+/// What is too large, if anything.
+fn too_large(s: &Settings, flaw: Flaw) -> Option<Verdict> {
+    match (store_fits(s, flaw), entries_fit(s, flaw)) {
+        (true, true) => None,
+        (true, false) | (false, true) if flaw == Flaw::OneTooLargeTaken => None,
+        (false, _) => Some(Verdict::Store),
+        (true, false) => Some(Verdict::Entries),
+    }
+}
+
 fn refused(verdict: Verdict) -> Printed {
     Printed { text: "trace refused\n".to_string(), verdict }
 }
@@ -208,7 +284,7 @@ fn line(text: &mut String, s: &Settings, row: u32, answer: &Result<Served, Refus
 }
 
 fn run(s: &Settings, steps: &[u32], flaw: Flaw) -> Printed {
-    let mut seen = Seen::default();
+    let mut seen = Seen { banks: s.b, ..Seen::default() };
     let mut text = String::new();
     let mut engine = Model::new(Memory::raw(s, 0), flaw.below());
     if let Err(refusal) = engine.set_up(s) {
@@ -226,15 +302,9 @@ fn run(s: &Settings, steps: &[u32], flaw: Flaw) -> Printed {
             continue;
         }
         let row = if flaw == Flaw::RowsCutTo16Bits { step % (1 << 16) } else { step };
-        let passed = engine.memory.control.passed;
+        let before = engine.memory.control;
         let answer = engine.read(s, row, &mut buffer);
-        let rise = engine.memory.control.passed.saturating_sub(passed);
-        seen.past_slots += u64::from(rise > 1);
-        seen.past_many += u64::from(rise > 17);
-        let number = answer.as_ref().err().map_or(0, |refusal| refusal.number());
-        seen.reads[number as usize % 10] += 1;
-        seen.moved += u64::from(answer.as_ref().is_ok_and(|served| served.moved_to.is_some()));
-        seen.sent_home += u64::from(answer.as_ref().is_ok_and(|served| served.sent_home.is_some()));
+        seen.read(s, row, &answer, &before, &engine.memory.control);
         line(&mut text, s, row, &answer, flaw);
     }
     Printed { text, verdict: Verdict::Ran(seen) }
@@ -271,13 +341,9 @@ fn judge_form(input: &[u8], flaw: Flaw) -> Option<Form> {
 
 /// What the trace program prints for a file.
 pub fn interpret(input: &[u8], flaw: Flaw) -> Printed {
-    let early = || {
-        let all = numbers(input, flaw)?;
-        let &[_, n, q, w, k, a, l] = all.first_chunk::<7>()?;
-        settings_number(&Settings { n, q, w, k, a, l }, flaw)
-    };
+    let early = || first_section(&numbers(input, flaw)?, flaw).map(|(s, _)| s);
     if flaw == Flaw::SettingsBeforeForm {
-        if let Some(number) = early() {
+        if let Some(number) = early().and_then(|s| settings_number(&s, flaw)) {
             return settings_refused(number);
         }
     }
@@ -287,18 +353,27 @@ pub fn interpret(input: &[u8], flaw: Flaw) -> Printed {
         Some(Form::Empty) => return Printed { text: String::new(), verdict: Verdict::Empty },
         Some(Form::Trace(s, steps)) => (s, steps),
     };
-    if flaw == Flaw::StoreBeforeSettings && !store_fits(&s, flaw) {
+    let number = settings_number(&s, flaw);
+    let refused_early = match flaw {
+        Flaw::StoreBeforeSettings => !store_fits(&s, flaw),
+        Flaw::EntriesBeforeSettings => !entries_fit(&s, flaw),
+        Flaw::EntriesBeforeTogether => number != Some(1) && !entries_fit(&s, flaw),
+        _ => false,
+    };
+    if refused_early {
         return refused(Verdict::Store);
     }
-    if let Some(number) = settings_number(&s, flaw) {
+    if let Some(number) = number {
         let mut printed = settings_refused(number);
         if flaw == Flaw::RefusedSettingsGoOn {
             (1..=steps.len()).for_each(|at| printed.text += &format!("{at} {number} - - -\n"));
         }
         return printed;
     }
-    if !store_fits(&s, flaw) {
-        return refused(Verdict::Store);
+    match too_large(&s, flaw) {
+        Some(Verdict::Entries) if flaw == Flaw::EntriesAsSettings => return settings_refused(1),
+        Some(verdict) => return refused(verdict),
+        None => {}
     }
     let mut printed = run(&s, &steps, flaw);
     if flaw == Flaw::NoLastNewline {

@@ -1,8 +1,9 @@
 //! Compares the trace program with a second interpreter of trace files, written from documents 01 and 02. Arguments: the
 //! program (target/bin/trace if none is given), then a seed. `--interpret` in place of the program makes this one the
 //! interpreter, from standard input to standard output; `--self` compares it with itself through a process. With both a
-//! fault may be named behind, to see it found.
+//! fault may be named after them, to see it found.
 
+mod bank_vectors;
 mod census;
 mod file;
 mod flaw;
@@ -122,7 +123,7 @@ fn planted_faults(files: &[Expected]) -> Result<(), String> {
             count = usize::from(long.iter().any(|file| shows(flaw, file)));
         }
         let name = format!("{flaw:?}");
-        println!("   {name:<36}{count:>6}");
+        println!("   {name:<44}{count:>6}");
         if count == 0 {
             unnoticed.push(name);
         }

@@ -1,6 +1,6 @@
 //! Files whose form is wrong, or that come close to it: good files with one thing changed.
 
-use crate::file::{File, Words, SECOND_COUNT};
+use crate::file::{File, Words};
 use crate::interpret::{FILE_MOST, STEPS_MOST};
 use crate::sound::{chase, small};
 use model::rng::Rng;
@@ -11,7 +11,7 @@ const BYTES: &[u8] = b"\t\r\0\x0b\x0c,;.:-+/xXaAeE_\"'#\x1f!\x7f\x80\x8a\xa0\xb0
 fn good(rng: &mut Rng) -> Words {
     let s = small(rng);
     let length = rng.between(0, 12) as usize;
-    Words::new(&s, &chase(rng, &s, length))
+    Words::new(&s, &chase(rng, &s, length)).either(rng)
 }
 
 /// One byte changed, put in or taken out, or the end cut off.
@@ -79,33 +79,39 @@ fn words(rng: &mut Rng) -> File {
     File::new("other word", words.set(at, word).plain())
 }
 
-/// Counts that do not fit: another first count, one step more or less than the second count says.
+/// Counts that do not fit: another first count, one step more or less than the second count says. With 7 for 6, or 6 for 7,
+/// a number more or less, such a file may also be a trace again.
 fn counts(rng: &mut Rng) -> File {
     let words = good(rng);
-    let steps = words.0.len() - SECOND_COUNT - 1;
-    let words = match rng.below(10) {
-        0 => words.set(0, rng.pick(&["5", "7", "0", "1", "60", "16", "66", "65535", "262", "4294967295"])),
+    let second = words.second_count();
+    let steps = words.0.len() - second - 1;
+    let words = match rng.below(11) {
+        0 => {
+            let firsts =
+                ["5", "6", "7", "8", "0", "1", "60", "70", "16", "17", "66", "65535", "262", "263", "4294967295"];
+            words.set(0, rng.pick(&firsts))
+        }
         // Another first count, and as many settings as it says.
         1 => {
-            let mut words = words.set(0, "5");
-            words.0.remove(rng.between(1, 6) as usize);
+            let mut words = words.set(0, (second - 2).to_string());
+            words.0.remove(rng.between(1, second as u64 - 1) as usize);
             words
         }
-        2 => {
-            let mut words = words.set(0, "7");
-            words.0.insert(rng.between(1, 7) as usize, rng.pick(&["1", "2", "16"]).to_string());
+        2 | 3 => {
+            let mut words = words.set(0, second.to_string());
+            words.0.insert(rng.between(1, second as u64) as usize, rng.pick(&["1", "2", "16"]).to_string());
             words
         }
-        3 | 4 => words.set(SECOND_COUNT, (steps + 1).to_string()),
-        5 if steps > 0 => words.set(SECOND_COUNT, (steps - 1).to_string()),
-        6 => words.set(SECOND_COUNT, rng.pick(&["4097", "65535", "65536", "4294967295", "0"])),
+        5 if steps > 0 => words.set(second, (steps - 1).to_string()),
+        6 => words.set(second, rng.pick(&["4097", "65535", "65536", "4294967295", "0"])),
         7 => {
             let mut words = words;
-            words.0.push(rng.pick(&["0", "1", "65535", "6"]).to_string());
+            words.0.push(rng.pick(&["0", "1", "65535", "6", "7"]).to_string());
             words
         }
         8 => Words(words.0[..rng.below(words.0.len() as u64 + 1) as usize].to_vec()),
-        _ => Words(words.0[rng.between(1, words.0.len() as u64) as usize..].to_vec()),
+        9 => Words(words.0[rng.between(1, words.0.len() as u64) as usize..].to_vec()),
+        _ => words.set(second, (steps + 1).to_string()),
     };
     let bytes = if rng.once_in(3) { words.varied(rng) } else { words.plain() };
     File::new("other count", bytes)
@@ -113,12 +119,14 @@ fn counts(rng: &mut Rng) -> File {
 
 /// Settings to be refused in a file whose form is refused: the form is judged first.
 fn both(rng: &mut Rng) -> File {
-    let at = rng.between(1, 6) as usize;
-    let mut words = good(rng).set(at, rng.pick(&["0", "4294967295", "1360001"]));
+    let words = good(rng);
+    let second = words.second_count();
+    let at = rng.between(1, second as u64 - 1) as usize;
+    let mut words = words.set(at, rng.pick(&["0", "4294967295", "1360001"]));
     match rng.below(3) {
         0 => words.0.push("1".to_string()),
         1 => words.0.push("x".to_string()),
-        _ => words = words.set(SECOND_COUNT, "4097"),
+        _ => words = words.set(second, "4097"),
     }
     File::new("settings and form", words.plain())
 }
@@ -137,7 +145,7 @@ fn blank(rng: &mut Rng) -> File {
 fn few(rng: &mut Rng, files: &mut Vec<File>) {
     let blank: [&[u8]; 8] = [b"", b" ", b"\n", b"\n\n  \n", b"\t", b"\0", b"\r\n", b"\xef\xbb\xbf"];
     files.extend(blank.map(|bytes| File::new("empty or blank", bytes)));
-    let short: [&str; 12] = [
+    let short: [&str; 17] = [
         "6",
         "0",
         "6 0",
@@ -150,12 +158,17 @@ fn few(rng: &mut Rng, files: &mut Vec<File>) {
         "0 6",
         "6 4",
         "7",
+        "7 4 2 1 2 2 5",
+        "7 4 2 1 2 2 5 1",
+        "7 4 2 1 2 2 5 2\n",
+        "8",
+        "8 4 2 1 2 2 5 1 1",
     ];
     files.extend(short.map(|text| File::new("one section", text)));
     for length in [STEPS_MOST + 1, STEPS_MOST + 2, 5_000, 8_192, 32_000] {
         for step in [0, 65_535] {
             let s = small(rng);
-            files.push(File::new("too many steps", Words::new(&s, &vec![step; length]).plain()));
+            files.push(File::new("too many steps", Words::new(&s, &vec![step; length]).either(rng).plain()));
         }
     }
     // Every other byte as the only separator, and as the last byte.

@@ -1,18 +1,25 @@
 //! Well-formed traces over small settings, whose steps follow the rows that were moved.
 
 use crate::file::{File, Words};
-use crate::interpret::TICK;
+use crate::interpret::{ENTRIES_MOST, TICK};
 use model::engine::{Model, Refusal};
 use model::fault::Fault;
 use model::memory::{Memory, Settings};
 use model::rng::Rng;
 
+/// B: often 1, otherwise any for which K × B is at most what a trace may have.
+pub fn banks(rng: &mut Rng, k: u64) -> u64 {
+    let most = (ENTRIES_MOST / k).clamp(1, 16);
+    let (few, any) = (rng.between(1, most.min(3)), rng.between(1, most));
+    rng.pick(&[1, few, any])
+}
+
 /// Settings with L at most what A and K allow.
 pub fn settings(rng: &mut Rng, n: u64, q: u64, w: u64, k: u64, a: u64) -> Settings {
     let most = (a * (k + 1) - 1).min(1_360_000);
     let l = if rng.once_in(2) { most } else { rng.between(1, most) };
-    let [n, q, w, k, a, l] = [n, q, w, k, a, l].map(|x| x as u32);
-    Settings { n, q, w, k, a, l }
+    let [n, q, w, k, a, l, b] = [n, q, w, k, a, l, banks(rng, k)].map(|x| x as u32);
+    Settings { n, q, w, k, a, l, b }
 }
 
 /// Settings so small that the conditions often meet.
@@ -71,7 +78,7 @@ pub fn files(rng: &mut Rng, count: usize) -> Vec<File> {
             let s = small(rng);
             let length = rng.pick(&[0, 1, 2, 8, 20, 40, 60, 120]);
             let length = rng.between(length / 2, length) as usize;
-            let words = Words::new(&s, &chase(rng, &s, length));
+            let words = Words::new(&s, &chase(rng, &s, length)).either(rng);
             let bytes = if rng.once_in(2) { words.plain() } else { words.varied(rng) };
             File::new("well-formed", bytes)
         })

@@ -1,5 +1,7 @@
 //! Files with the lines that document 01 prints for them, or that were derived by hand from 01 and 02.
 
+use crate::bank_vectors;
+
 const REFUSED: &str = "trace refused\n";
 
 pub struct Vector {
@@ -23,7 +25,7 @@ const DERIVED: [(&str, &str); 21] = [
     ("6 60000 5500 8192 2 2 6 2 1 1", "0 2 - - -\n"),
     ("6 60001 5500 8192 2 2 5 2 1 1", "0 1 - - -\n"),
     ("6 4294967295 4294967295 4294967295 4294967295 4294967295 4294967295 0", "0 1 - - -\n"),
-    // A = 1: each access moves the row, which leaves its own slot behind.
+    // A = 1: each access moves the row, which leaves its own slot.
     (
         "6 1 2 1 1 1 1 7 0 0 65535 0 65535 0 0",
         "1 0 0 0 -\n2 8 - - -\n3 0 - - -\n4 0 1 1 -\n5 0 - - -\n6 0 2 0 -\n7 8 - - -\n",
@@ -70,7 +72,7 @@ const DERIVED: [(&str, &str); 21] = [
 const EMPTY: [&str; 7] = ["", " ", "\n", "\n\n", " \n", "\n ", "   \n \n\n  "];
 
 /// Files refused whole.
-const NO_TRACE: [&str; 43] = [
+const NO_TRACE: [&str; 42] = [
     // A section alone, or less than one.
     "0",
     "6",
@@ -92,7 +94,6 @@ const NO_TRACE: [&str; 43] = [
     // Counts that do not fit.
     "5 4 2 1 2 2 0",
     "7 4 2 1 2 2 5 0",
-    "7 4 2 1 2 2 5 1 0",
     "0 0",
     "6 4 2 1 2 2 5 1",
     "6 4 2 1 2 2 5 0 0",
@@ -143,9 +144,14 @@ fn past_nineteen() -> Vector {
 pub fn all() -> Vec<Vector> {
     let pair =
         |&(file, printed): &(&str, &str)| Vector { file: file.as_bytes().to_vec(), printed: printed.to_string() };
-    let mut all: Vec<Vector> = std::iter::once(&SESSION).chain(&DERIVED).map(pair).collect();
-    all.extend(NO_TRACE.map(|file| Vector { file: file.as_bytes().to_vec(), printed: REFUSED.to_string() }));
+    let derived = DERIVED.iter().chain(&bank_vectors::DERIVED);
+    let mut all: Vec<Vector> = std::iter::once(&SESSION).chain(derived).map(pair).collect();
+    let no_trace = NO_TRACE.iter().chain(&bank_vectors::NO_TRACE);
+    all.extend(no_trace.map(|file| Vector { file: file.as_bytes().to_vec(), printed: REFUSED.to_string() }));
     all.extend(EMPTY.map(|file| Vector { file: file.as_bytes().to_vec(), printed: String::new() }));
+    // The session with a first count of 7, and 1 after the other settings.
+    let one_bank = SESSION.0.replacen("6 4 2 1 2 2 5", "7 4 2 1 2 2 5 1", 1);
+    all.push(Vector { file: one_bank.into_bytes(), printed: SESSION.1.to_string() });
     // Blanks or newlines alone, up to the file's length and past it.
     for (length, printed) in [(65_535, ""), (65_536, ""), (65_537, REFUSED), (65_538, REFUSED), (131_072, REFUSED)] {
         for with in [" ", "\n", " \n"] {
@@ -161,7 +167,7 @@ pub fn all() -> Vec<Vector> {
             all.push(Vector { file: format!("{fill}{session}").into_bytes(), printed: printed.to_string() });
         }
     }
-    // The session with its first number behind 400 zeros, and with a row of 10 to the 400 in place of the last.
+    // The session with its first number after 400 zeros, and with a row of 10 to the 400 in place of the last.
     let zeros = "0".repeat(400);
     all.push(Vector { file: format!("{zeros}{session}").into_bytes(), printed: SESSION.1.to_string() });
     let before_last = session.trim_end_matches(|c: char| c.is_ascii_digit());
@@ -174,7 +180,10 @@ pub fn all() -> Vec<Vector> {
         (1..=count).map(line).collect()
     };
     for (count, printed) in [(4_095, lines(4_095)), (4_096, lines(4_096)), (4_097, REFUSED.to_string())] {
-        all.push(Vector { file: format!("6 4 2 1 2 2 5 {count} {}", pairs(count)).into_bytes(), printed });
+        for settings in ["6 4 2 1 2 2 5", "7 4 2 1 2 2 5 1", "7 4 2 1 2 2 5 3"] {
+            let file = format!("{settings} {count} {}", pairs(count)).into_bytes();
+            all.push(Vector { file, printed: printed.clone() });
+        }
     }
     all
 }

@@ -3,6 +3,7 @@
 
 use crate::file::{File, Words};
 use crate::interpret::{STEPS_MOST, TICK};
+use crate::sound::banks;
 use model::engine::Model;
 use model::fault::Fault;
 use model::memory::{Memory, Settings, NONE};
@@ -85,17 +86,19 @@ impl Maker {
     }
 }
 
-/// Traces of a few epochs; the first has as many slots as a trace can wear half of.
+/// Traces of a few epochs; the first two have as many slots as a trace can wear half of, with one bank and with 16.
 pub fn files(rng: &mut Rng, count: usize) -> Vec<File> {
     (0..count)
         .map(|at| {
+            let largest = at < 2;
             let few = rng.between(2, 30) as u32;
-            let q = if at == 0 { 2_600 } else { rng.pick(&[few, few + 36, few + 36]) };
-            let a = if at == 0 { 1 } else { rng.pick(&[1, 1, 2, 3]) };
+            let q = if largest { 2_600 } else { rng.pick(&[few, few + 36, few + 36]) };
+            let a = if largest { 1 } else { rng.pick(&[1, 1, 2, 3]) };
             let n = 2 * q + rng.between(1, 5) as u32;
-            let k = (q + rng.between(0, 8) as u32).min(4_096);
-            let mut maker = Maker::new(Settings { n, q, w: 1, k, a, l: a * (k + 1) - 1 });
-            let rounds = if at == 0 { 1 } else { rng.between(1, 3) };
+            let b = if largest { [1, 16][at] } else { banks(rng, 66) as u32 };
+            let k = (q + rng.between(0, 8) as u32).div_ceil(b);
+            let mut maker = Maker::new(Settings { n, q, w: 1, k, a, l: a * (k + 1) - 1, b });
+            let rounds = if largest { 1 } else { rng.between(1, 3) };
             (0..rounds).for_each(|_| maker.round(rng));
             maker.steps.truncate(STEPS_MOST);
             File::new("worn slots", Words::new(&maker.s, &maker.steps).plain())

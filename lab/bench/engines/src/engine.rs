@@ -1,6 +1,6 @@
-//! The engine of document 01 in plain Rust, with every refusal judged at every call. How tables are searched, and so how
-//! the slot for a move is found, is left open: the idiomatic and the tuned engine differ in nothing else. It has the
-//! calls that the streams make.
+//! The engine of document 01 in plain Rust, with a tracker for each bank (document 02, Ask 5) and with every refusal
+//! judged at every call. How tables are searched, and so how the slot for a move is found, is left open: the idiomatic
+//! and the tuned engine differ in nothing else. It has the calls that the streams make.
 
 use crate::scan::Scan;
 use crate::worn::{Passes, Ring, Tracked};
@@ -9,7 +9,7 @@ use model::memory::{Answer, Control, Settings, NONE};
 
 const EMPTY: u16 = 65_535;
 
-/// How step 2 of an access goes; with an entry stands its new count, the estimate.
+/// How step 2 of an access goes; with an entry, which is numbered through all banks, stands its new count, the estimate.
 enum Way {
     Raise(usize, u32),
     Take(usize, u32),
@@ -29,7 +29,8 @@ fn judge_settings(s: &Settings) -> Result<(), u32> {
         && (1..=8_192).contains(&s.w)
         && (1..=4_096).contains(&s.k)
         && (1..=65_535).contains(&s.a)
-        && (1..=1_360_000).contains(&s.l);
+        && (1..=1_360_000).contains(&s.l)
+        && (1..=16).contains(&s.b);
     if !in_range {
         return Err(1);
     }
@@ -40,12 +41,12 @@ fn judge_settings(s: &Settings) -> Result<(), u32> {
 }
 
 fn judge_lengths(s: &Settings, m: &Lent) -> Result<(), u32> {
-    let (n, q, w, k) = (s.n as usize, s.q as usize, s.w as usize, s.k as usize);
+    let (n, q, w, entries) = (s.n as usize, s.q as usize, s.w as usize, s.b as usize * s.k as usize);
     let fit = m.store.len() == (n + q) * w
         && m.forward.len() == n
         && m.reverse.len() == q
-        && m.rows.len() == k
-        && m.counts.len() == k;
+        && m.rows.len() == entries
+        && m.counts.len() == entries;
     if fit {
         Ok(())
     } else {
@@ -53,36 +54,51 @@ fn judge_lengths(s: &Settings, m: &Lent) -> Result<(), u32> {
     }
 }
 
-fn judge_control<S: Scan>(s: &Settings, m: &Lent) -> Result<(), u32> {
-    let Control { head, passed, spill, acts } = *m.control;
-    let unsound = head >= s.q || passed > s.q || acts > s.l || spill > acts || spill >= s.a;
-    if unsound || S::any_above(m.counts, acts) {
+/// There are as many parts of K counts as banks, so the places of the record from B on are not looked at.
+#[inline(always)]
+fn judge_control<S: Scan, const ONE: bool>(s: &Settings, m: &Lent) -> Result<(), u32> {
+    let Control { head, passed, spill, acts } = &*m.control;
+    let unsound = |bank: usize, counts: &[u32]| {
+        let (spill, acts) = (spill[bank], acts[bank]);
+        acts > s.l || spill > acts || spill >= s.a || S::any_above(counts, acts)
+    };
+    let some_bank_unsound = || {
+        if ONE {
+            unsound(0, m.counts)
+        } else {
+            m.counts.chunks(s.k as usize).enumerate().any(|(bank, counts)| unsound(bank, counts))
+        }
+    };
+    if *head >= s.q || *passed > s.q || some_bank_unsound() {
         Err(4)
     } else {
         Ok(())
     }
 }
 
-/// Step 2, without a change. Inlined, as `access` and both functions of a move are: measured, that is the fastest form
-/// of the two engines.
+/// Step 2, without a change.
 #[inline(always)]
-fn choose<S: Scan>(m: &Lent, place: usize) -> Way {
-    if let Some(entry) = S::row(m.rows, place as u16) {
-        return Way::Raise(entry, m.counts[entry] + 1);
+fn choose<S: Scan, const ONE: bool>(s: &Settings, m: &Lent, bank: usize, place: usize) -> Way {
+    let (k, first) = (s.k as usize, bank * s.k as usize);
+    let (rows, counts) =
+        if ONE { (&*m.rows, &*m.counts) } else { (&m.rows[first..first + k], &m.counts[first..first + k]) };
+    if let Some(at) = S::row(rows, place as u16) {
+        return Way::Raise(first + at, counts[at] + 1);
     }
-    match S::count(m.counts, m.control.spill) {
-        Some(entry) => Way::Take(entry, m.control.spill + 1),
+    let spill = m.control.spill[bank];
+    match S::count(counts, spill) {
+        Some(at) => Way::Take(first + at, spill + 1),
         None => Way::Spill,
     }
 }
 
 /// Where the row goes from its place, with 9 and the destination's 7 judged. `entry` and `count` are those of step 2.
 #[inline(always)]
-fn plan_move<S: Passes>(
+fn plan_move<S: Passes, const ONE: bool>(
     s: &Settings, m: &Lent, slot: Option<usize>, place: usize, entry: usize, count: u32,
 ) -> Result<Move, u32> {
-    let (rows, counts) = (&*m.rows, &*m.counts);
-    let tracked = Tracked { rows, counts, entry, place: place as u16, count, threshold: s.a };
+    let (rows, counts, k, banks) = (&*m.rows, &*m.counts, s.k as usize, if ONE { 1 } else { s.b });
+    let tracked = Tracked { rows, counts, k, banks, entry, place: place as u16, count, threshold: s.a };
     let (q, head) = (s.q as usize, m.control.head as usize);
     let ring = Ring { first: s.n as usize, q, head, left: (s.q - m.control.passed) as usize, own: slot };
     let passed = S::passed(&tracked, &ring).ok_or(9u32)?;
@@ -96,9 +112,8 @@ fn plan_move<S: Passes>(
 }
 
 #[inline(always)]
-fn accept(s: &Settings, m: &mut Lent, row: usize, slot: Option<usize>, place: usize, moved: &Option<Move>) {
-    m.control.acts += 1;
-    let Some(Move { to, rise, sent_home }) = moved else { return };
+fn carry_out(s: &Settings, m: &mut Lent, row: usize, slot: Option<usize>, place: usize, moved: &Move) {
+    let Move { to, rise, sent_home } = moved;
     let (n, w) = (s.n as usize, s.w as usize);
     let target = n + to;
     if let Some(guest) = sent_home {
@@ -117,9 +132,23 @@ fn accept(s: &Settings, m: &mut Lent, row: usize, slot: Option<usize>, place: us
 
 #[inline(always)]
 pub fn access<S: Scan + Passes>(s: &Settings, m: &mut Lent, row: u32, buffer: &mut [u8]) -> Result<Answer, u32> {
+    if s.b == 1 {
+        access_with::<S, true>(s, m, row, buffer)
+    } else {
+        access_with::<S, false>(s, m, row, buffer)
+    }
+}
+
+/// `ONE` says that there is one bank: then no remainder is taken, and no part is cut out of a table. An access is
+/// compiled a second time for that, and all that it calls is inlined: measured, that is the fastest form of the two
+/// engines.
+#[inline(always)]
+fn access_with<S: Scan + Passes, const ONE: bool>(
+    s: &Settings, m: &mut Lent, row: u32, buffer: &mut [u8],
+) -> Result<Answer, u32> {
     judge_settings(s)?;
     judge_lengths(s, m)?;
-    judge_control::<S>(s, m)?;
+    judge_control::<S, ONE>(s, m)?;
     if row >= s.n {
         return Err(5);
     }
@@ -133,15 +162,16 @@ pub fn access<S: Scan + Passes>(s: &Settings, m: &mut Lent, row: u32, buffer: &m
         slot if m.reverse.get(usize::from(slot)) == Some(&(row as u16)) => Some(usize::from(slot)),
         _ => return Err(7),
     };
-    if m.control.acts == s.l {
+    let place = slot.map_or(row, |slot| n + slot);
+    let bank = if ONE { 0 } else { place % s.b as usize };
+    if m.control.acts[bank] == s.l {
         return Err(8);
     }
-    let place = slot.map_or(row, |slot| n + slot);
-    let way = choose::<S>(m, place);
+    let way = choose::<S, ONE>(s, m, bank, place);
     let (estimate, moved) = match way {
         Way::Raise(entry, count) | Way::Take(entry, count) => {
             let due = count % s.a == 0;
-            (count, if due { Some(plan_move::<S>(s, m, slot, place, entry, count)?) } else { None })
+            (count, if due { Some(plan_move::<S, ONE>(s, m, slot, place, entry, count)?) } else { None })
         }
         Way::Spill => (0, None),
     };
@@ -152,9 +182,12 @@ pub fn access<S: Scan + Passes>(s: &Settings, m: &mut Lent, row: u32, buffer: &m
             m.rows[entry] = place as u16;
             m.counts[entry] = count;
         }
-        Way::Spill => m.control.spill += 1,
+        Way::Spill => m.control.spill[bank] += 1,
     }
-    accept(s, m, row, slot, place, &moved);
+    m.control.acts[bank] += 1;
+    if let Some(moved) = &moved {
+        carry_out(s, m, row, slot, place, moved);
+    }
     let slot = moved.as_ref().map_or(NONE, |moved| moved.to as u32);
     let sent_home = moved.and_then(|moved| moved.sent_home).map_or(NONE, |row| row as u32);
     Ok(Answer { place: place as u64, estimate, slot, row: sent_home, ..Answer::bare(0) })
@@ -162,13 +195,15 @@ pub fn access<S: Scan + Passes>(s: &Settings, m: &mut Lent, row: u32, buffer: &m
 
 #[inline(always)]
 pub fn tick<S: Scan>(s: &Settings, m: &mut Lent) -> u32 {
-    let judged = judge_settings(s).and_then(|()| judge_lengths(s, m)).and_then(|()| judge_control::<S>(s, m));
+    let judged = judge_settings(s).and_then(|()| judge_lengths(s, m)).and_then(|()| judge_control::<S, false>(s, m));
     if let Err(number) = judged {
         return number;
     }
     m.rows.fill(EMPTY);
     m.counts.fill(0);
-    *m.control = Control { head: m.control.head, ..Control::default() };
+    m.control.passed = 0;
+    m.control.spill[..s.b as usize].fill(0);
+    m.control.acts[..s.b as usize].fill(0);
     0
 }
 

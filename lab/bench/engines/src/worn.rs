@@ -11,8 +11,11 @@ const LOOKS: usize = 8;
 /// The tracker as step 2 of an access that moves its row leaves it: `entry` names the place of the access and has its
 /// new count, every other entry is as it is lent.
 pub struct Tracked<'a> {
+    /// The entries of all banks, `k` for each.
     pub rows: &'a [u16],
     pub counts: &'a [u32],
+    pub k: usize,
+    pub banks: u32,
     pub entry: usize,
     pub place: u16,
     pub count: u32,
@@ -20,16 +23,19 @@ pub struct Tracked<'a> {
 }
 
 impl Tracked<'_> {
-    /// The lowest entry that names the physical row has a count of the threshold or more.
+    /// The lowest entry of the physical row's bank that names it has a count of the threshold or more.
     fn worn<S: Scan>(&self, name: u16) -> bool {
         if name == self.place {
             return self.count >= self.threshold;
         }
-        let found = match S::row(self.rows, name) {
-            Some(at) if at == self.entry => S::row(&self.rows[at + 1..], name).map(|further| at + 1 + further),
+        let bank = if self.banks == 1 { 0 } else { u32::from(name) % self.banks };
+        let first = bank as usize * self.k;
+        let rows = &self.rows[first..first + self.k];
+        let found = match S::row(rows, name) {
+            Some(at) if first + at == self.entry => S::row(&rows[at + 1..], name).map(|further| at + 1 + further),
             found => found,
         };
-        found.is_some_and(|at| self.counts[at] >= self.threshold)
+        found.is_some_and(|at| self.counts[first + at] >= self.threshold)
     }
 }
 
@@ -83,23 +89,29 @@ impl Passes for Blocks {
     }
 }
 
-/// One walk over the tracker marks the worn slots in a table, which is then searched. The walk goes from the highest
-/// entry to the lowest, so that the lowest one that names a slot has the last word. Entries that name no slot are noted
-/// behind the last one.
+/// One walk over the tracker marks the worn slots in a table, which is then searched. Each bank is walked from its
+/// highest entry to its lowest, so that the lowest one that names a slot has the last word; the entry of step 2, which
+/// is the lowest for its place, comes last of all. Entries that name no slot of their bank are noted behind the last one.
 #[cold]
 #[inline(never)]
 fn marked(tracked: &Tracked, ring: &Ring) -> Option<usize> {
     let mut table = [0u8; MOST_SLOTS + 1];
     let worn = &mut table[..=ring.q];
-    let mut mark = |name: u16, count: u32| {
-        let at = usize::from(name).wrapping_sub(ring.first).min(ring.q);
-        worn[at] = u8::from(count >= tracked.threshold);
+    let mut mark = |of_this_bank: bool, name: u16, count: u32| {
+        let slot = usize::from(name).wrapping_sub(ring.first).min(ring.q);
+        worn[if of_this_bank { slot } else { ring.q }] = u8::from(count >= tracked.threshold);
     };
-    let (low, high) = (0..tracked.entry, tracked.entry + 1..tracked.rows.len());
-    let pairs = |range: std::ops::Range<usize>| tracked.rows[range.clone()].iter().zip(&tracked.counts[range]).rev();
-    pairs(high).for_each(|(&name, &count)| mark(name, count));
-    mark(tracked.place, tracked.count);
-    pairs(low).for_each(|(&name, &count)| mark(name, count));
+    let (entry, k, banks) = (tracked.entry, tracked.k, tracked.banks);
+    for bank in 0..banks {
+        let first = bank as usize * k;
+        let end = first + k;
+        for part in [(entry + 1).clamp(first, end)..end, first..entry.clamp(first, end)] {
+            for (&name, &count) in tracked.rows[part.clone()].iter().zip(&tracked.counts[part]).rev() {
+                mark(banks == 1 || u32::from(name) % banks == bank, name, count);
+            }
+        }
+    }
+    mark(true, tracked.place, tracked.count);
     if let Some(own) = ring.own {
         worn[own] = 1;
     }
