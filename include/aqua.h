@@ -14,10 +14,10 @@
  * where its length is 0; at it lie at least as many elements as its length says; what is lent does not overlap; and nobody
  * else writes it while a call runs.
  *
- * Physical rows are the homes, 0 to n - 1, and after them the slots: slot s is physical row n + s. Physical row p is of bank
- * p % b. Each bank has a tracker of its own: bank c has the entries c * k to c * k + k - 1 of rows and counts. An
- * access counts in the bank of its place, the physical row that it opens; for a row that is in a slot, this is the slot's
- * bank and not that of the row's home.
+ * Physical rows are the homes, 0 to n - 1, and after them the slots: slot s is physical row n + s. Physical row p is of
+ * bank p % b. Each bank has a tracker of its own: bank c has the entries c * k to c * k + k - 1 of rows and counts. An
+ * access counts in the bank of its place, the physical row that it opens; for a row that is in a slot, this is the
+ * slot's bank and not that of the row's home.
  *
  * Refusal numbers, the first that applies:
  *   1  a setting is outside its range        2  l is a * (k + 1) or more
@@ -76,8 +76,8 @@ typedef struct {
 
 /* What the estimate of an accepted access tells, whatever calls were made since set-up. The row was moved exactly where the
  * estimate is not 0 and settings.a divides it. Accesses opened place in this epoch, this one included, at most estimate
- * times and at least estimate - spill times; where the estimate is 0, at most spill times. Here spill is that of the place's
- * bank, control.spill[place % settings.b], as the access left it; it is below settings.a. */
+ * times and at least estimate - spill times; where the estimate is 0, at most spill times. Here spill is that of the
+ * bank of place, control.spill[place % settings.b], as the access left it; it is below settings.a. */
 
 /* Where a part of the store lies. */
 typedef struct {

@@ -7,6 +7,8 @@
 
 #include "aqua.h"
 
+_Static_assert(sizeof(aqua_settings) == 28 && sizeof(aqua_control) == 136, "the layouts that the library was built for");
+
 /* The memory that is lent has the session's sizes; set-up answers 3 to settings that ask for others. */
 enum { N = 4, Q = 2, W = 1, K = 2, TICK = 65535 };
 

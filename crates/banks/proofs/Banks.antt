@@ -1,10 +1,11 @@
 -- Laws of banks. Assumes nothing.
-use Prim.Native.Nat.{ℕ, zero, suc, _<_, _≤_}
-use native.Mathlib.Nat.{not-suc-le-zero, le-refl, mod-lt, mod-eq-of-lt, mod-one}
+use Prim.Native.Nat.{ℕ, zero, suc, _+_, _<_, _≤_}
+use native.Mathlib.Nat.{not-suc-le-zero, le-refl, mod-lt, mod-eq-of-lt}
+use native.Mathlib.Numerals.{add-one}
 use native.Mathlib.Omega.{arith}
-use mathlib.Core.Path.{_≡_, refl, sym, ap, _∙_}
+use mathlib.Core.Path.{_≡_, refl}
 use mathlib.Core.Logic.{inl, inr}
-use mathlib.Core.Bool.{Bool, false}
+use mathlib.Core.Bool.{Bool, false, _||_}
 use Rattle.geometry.specs.declared.Settings.{Settings}
 use Rattle.geometry.proofs.Cases.{eq?}
 use Rattle.geometry.proofs.Tests.{or-left, or-right}
@@ -19,6 +20,11 @@ bank-in S p some = mod-lt p some
 pub bank-itself : (S : Settings) (c : ℕ) → c < S .b → bankOf S c ≡ c
 unfolding bankOf
 bank-itself S c b = mod-eq-of-lt b
+
+-- one bank more is tested
+pub bank-more : (test : ℕ → Bool) (c : ℕ) {found next : Bool} → found ≡ someBank test c → next ≡ test c → (found || next) ≡ someBank test (c + 1)
+unfolding someBank
+bank-more test c e f = rw (add-one, e, f)
 
 -- no bank passes the test
 pub bank-none : (test : ℕ → Bool) (b : ℕ) → ((c : ℕ) → c < b → test c ≡ false) → someBank test b ≡ false

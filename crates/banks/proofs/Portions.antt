@@ -16,6 +16,11 @@ use Rattle.banks.specs.Portions.{portion, withPortion}
 pub portion-fits : (k b c n : ℕ) → n ≡ b * k → c < b → c * k + k ≤ n
 portion-fits k b c n long inside = omega (arith, row-before k c b inside)
 
+-- a portion as it is lent, from its start to its end
+pub portion-lent : (k c : ℕ) (xs : List ℕ) → take (c * k + k - c * k) (drop (c * k) xs) ≡ portion k c xs
+unfolding portion
+portion-lent k c xs = ap (λ (n : ℕ). take n (drop (c * k) xs)) (let e : c * k + k - c * k ≡ k = omega arith in e)
+
 module _ (k c : ℕ) (xs : List ℕ) (fits : c * k + k ≤ length xs) where
   pub length-portion : length (portion k c xs) ≡ k
   unfolding portion

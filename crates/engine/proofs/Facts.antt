@@ -212,7 +212,7 @@ unfolding accessNumber
 access-all P p0 p1 p2 p3 p4 p5 p6 p7 p8 p9 S σ r off =
     ladder-all P _ _ (tick-all P p0 p1 p2 p3 p4 S σ) (λ e.
     ladder-all P _ _ (row-all P p0 p5 S (σ .reverse) (forwardOf σ r) r off (λ e. p6) (λ b e. p7)) (λ e.
-    late-all P p0 p8 p9 S (ringOf (σ .control)) (trackerAt S σ (place S σ r) .acts) (σ .forward) (σ .reverse) (skipped S σ r) (moves S σ r) (λ d e. p7)))
+    late-all P p0 p8 p9 S _ _ _ _ _ _ (λ d e. p7)))
 
 pub inspect-all : (P : ℕ → Type 0) → P 0 → P 1 → P 2 → P 3 → P 4 → P 5 → P 7 → (S : Settings) (σ : State) (r : ℕ) → P (inspectNumber S σ r)
 unfolding inspectNumber

@@ -38,7 +38,7 @@ inv-cleared S σ z =
     let none : (x : ℕ) → x < S .n → forwardOf (calls.cleared S σ) x ≡ empty = λ x b. getD-replicate (S .n) x empty empty b in
     subst (λ (σ′ : State). Inv S σ′ tally.start tally.start) (cleared-new S σ (R .b-high))
     (inv-new S (calls.cleared S σ) tally.start (f .ranges) (f .limit)
-    (sound-ticked R
+    (sound-ticked {σ = calls.cleared S σ} R
     (record {
       store = X .store;
       forward = length-replicate (S .n) empty;

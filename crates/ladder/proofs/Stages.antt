@@ -14,10 +14,11 @@ use Rattle.conditions.proofs.Facts.{Ranges, Exact, ranges-facts, lengths-facts}
 use Rattle.scan.specs.Scan.{some}
 use Rattle.scan.proofs.Scans.{some-none}
 use Rattle.scan.proofs.Loops.{counts-below}
-use Rattle.engine.specs.State.{State, lengthsOf, forwardOf}
+use Rattle.banks.specs.Portions.{portion}
+use Rattle.engine.specs.State.{State, lengthsOf, trackerOf, forwardOf}
 use Rattle.engine.specs.Ladder.{_▹_, rowNumber, tickNumber}
 use Rattle.engine.proofs.Rungs.{halts, goes-on}
-use Rattle.engine.proofs.Facts.{Steady, steady, none-above, tick-facts}
+use Rattle.engine.proofs.Facts.{Steady, steady, tick-facts}
 
 -- ---- a stage gives the number x: the ladder ends there, or goes on to the next stage, which gives y
 
@@ -45,8 +46,8 @@ pub record Checked (S : Settings) (σ : State) : Type 0 where
   pub ranges : Ranges S
   pub lengths : Exact S (lengthsOf σ)
   pub steady : Steady S σ
-  -- a count can rise by 1
-  pub counts : some (λ count. ltb 4294967294 count) (σ .counts) ≡ false
+  -- a count of a bank can rise by 1
+  pub counts : (c : ℕ) → c < S .b → some (λ count. ltb 4294967294 count) (portion (S .k) c (σ .counts)) ≡ false
 
 counts-fit : (acts : ℕ) (counts : List ℕ) → acts ≤ 1360000 → some (λ count. ltb acts count) counts ≡ false
     → some (λ count. ltb 4294967294 count) counts ≡ false
@@ -62,7 +63,9 @@ checked S σ z =
       ranges = R;
       lengths = lengths-facts S (lengthsOf σ) (f .0 .lengths);
       steady = s;
-      counts = counts-fit (σ .control .acts) (σ .counts) (omega (arith, s .acts-in, R .l-high)) (none-above S (σ .control) (σ .counts) (f .1));
+      counts = λ c b.
+          let t = s .banks c b in
+          counts-fit ((trackerOf S σ c) .acts) (portion (S .k) c (σ .counts)) (omega (arith, t .acts-in, R .l-high)) (t .none-above);
     }
 
 -- the reverse table is as long as `row_number` asks; x: the number of 1 to 4, as the code has it

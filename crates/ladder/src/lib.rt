@@ -1,10 +1,11 @@
 // The refusals that need no tracker: 1 to 7, in the order of document 01. Nothing lent is written here.
 ghost use mathlib.Core.Path.{_≡_};
-ghost use Prim.Native.Nat.{_≤_};
+ghost use Prim.Native.Nat.{_*_, _≤_};
 ghost use lib.ListN.{length, getD};
 ghost use Rattle.geometry.specs.Entry.{empty};
 ghost use Rattle.engine.specs.State.{stateOf, controlOf};
-ghost use Rattle.engine.specs.Ladder.{settingsNumber, fitNumber, ringUnsound, trackerUnsound, tickNumber};
+ghost use Rattle.banks.specs.Banks.{mostBanks};
+ghost use Rattle.engine.specs.Ladder.{settingsNumber, fitNumber, ringUnsound, trackerUnsound, trackersUnsound, tickNumber};
 ghost use Rattle.engine.specs.Ladder.{pointsBack, rowNumber, readOff, writeOff};
 use geometry::ForwardEntry;
 use geometry::Lengths;
@@ -45,28 +46,48 @@ fn ring_unsound(s: Settings, ring: Ring) -> bool
     (s.q <= ring.head) | (s.q < ring.passed)
 }
 
-// Tells whether 4 applies because of the tracker's numbers.
+// Tells whether 4 applies because of a bank's numbers.
 fn tracker_unsound(s: Settings, spill: u32, acts: u32, counts: &[u32]) -> bool
     ensures { λ r. ⌜ r ≡ trackerUnsound s spill acts (now (counts .entry)) ⌝ }
 {
     (s.l < acts) | (acts < spill) | (s.a <= spill) | count_scan::any_above(counts, acts)
 }
 
+// Tells whether 4 applies because of the numbers of some bank below B. spill, acts: by bank.
+fn trackers_unsound(s: Settings, spill: &[u32], acts: &[u32], counts: &[u32]) -> bool
+    requires { ⌜
+        (s .b ≤ length (now spill)) × (s .b ≤ length (now acts)) × (length (now counts) ≡ s .b * s .k) ⌝ }
+    ensures { λ r. ⌜ r ≡ trackersUnsound s (now (spill .entry)) (now (acts .entry)) (now (counts .entry)) ⌝ }
+{
+    let k = s.k as usize;
+    let b = s.b as usize;
+    let mut found = false;
+    let mut bank: usize = 0;
+    while bank < b {
+        let from = bank * k;
+        let to = from + k;
+        found = found | tracker_unsound(s, spill[bank], acts[bank], &counts[from..to]);
+        bank += 1;
+    }
+    found
+}
+
 // Returns the first of 1 to 4 that applies, or 0: the number of a tick, and what every call but set-up has to pass.
 pub fn tick_number(
     s: Settings,
     ring: Ring,
-    spill: u32,
-    acts: u32,
+    spill: &[u32],
+    acts: &[u32],
     store: &[u8],
     forward: &[u16],
     reverse: &[u16],
     rows: &[u16],
     counts: &[u32],
 ) -> u32
+    requires { ⌜ (mostBanks ≤ length (now spill)) × (mostBanks ≤ length (now acts)) ⌝ }
     ensures { λ r.
         let lent = stateOf (now (store .entry)) (now (forward .entry)) (now (reverse .entry))
-        (now (rows .entry)) (now (counts .entry)) (controlOf ring spill acts) in
+        (now (rows .entry)) (now (counts .entry)) (controlOf ring (now (spill .entry)) (now (acts .entry))) in
         ⌜ r ≡ tickNumber s lent ⌝ }
 {
     let lent = Lengths {
@@ -80,7 +101,7 @@ pub fn tick_number(
     if number != 0 {
         return number;
     }
-    if ring_unsound(s, ring) | tracker_unsound(s, spill, acts, counts) {
+    if ring_unsound(s, ring) | trackers_unsound(s, spill, acts, counts) {
         return engine::CONTROL;
     }
     0

@@ -34,11 +34,13 @@ pub fn inspect_number(
         head: control.head,
         passed: control.passed,
     };
+    let spill = control.spill;
+    let acts = control.acts;
     let first = ladder::tick_number(
         s,
         ring,
-        control.spill,
-        control.acts,
+        &spill,
+        &acts,
         store,
         forward,
         reverse,

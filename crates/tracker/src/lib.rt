@@ -1,29 +1,39 @@
 // The tracker over lent tables: step 2 of an access, chosen and then followed, and the start of an epoch.
 ghost use mathlib.Core.Path.{_≡_};
 ghost use mathlib.Core.Bool.{false};
-ghost use Prim.Native.Nat.{_<_};
+ghost use Prim.Native.Nat.{_+_, _*_, _<_, _≤_};
 ghost use lib.Dec.{ltb};
 ghost use lib.ListN.{length, replicate};
 ghost use Rattle.geometry.specs.Entry.{empty};
 ghost use Rattle.scan.specs.Scan.{some};
-ghost use Rattle.tracking.specs.Choice.{choiceOf, estimateBy, entryBy, followed, Within, trackedOf};
+ghost use Rattle.banks.specs.Portions.{portion};
+ghost use Rattle.tracking.specs.Choice.{choiceIn, estimateBy, entryBy, followed, Within, trackedOf};
 use geometry::PhysicalRow;
 pub use tracking::Choice;
 
-// The way that step 2 goes. Nothing is written.
-pub fn choose(place: PhysicalRow, rows: &[u16], counts: &[u32], spill: u32) -> Choice
+// The way that step 2 goes at a place of that bank, each bank having k entries of the tables. Nothing is written.
+pub fn choose(
+    place: PhysicalRow,
+    k: usize,
+    bank: usize,
+    rows: &[u16],
+    counts: &[u32],
+    spill: u32,
+) -> Choice
     requires { ⌜
-        (place .0 < 65536) × (length (now rows) ≡ length (now counts))
-        × (some (λ count. ltb 4294967294 count) (now counts) ≡ false) × (spill < 4294967295) ⌝ }
-    ensures { λ r. ⌜ r ≡ choiceOf (place .0) (now (rows .entry)) (now (counts .entry)) spill ⌝ }
+        (place .0 < 65536) × (bank * k + k ≤ length (now rows)) × (bank * k + k ≤ length (now counts))
+        × (some (λ count. ltb 4294967294 count) (portion k bank (now counts)) ≡ false) × (spill < 4294967295) ⌝ }
+    ensures { λ r. ⌜ r ≡ choiceIn k bank (place .0) (now (rows .entry)) (now (counts .entry)) spill ⌝ }
 {
     let name = place.0 as u16;
-    let i = row_scan::index_of_row(rows, name);
-    if i < rows.len() {
+    let from = bank * k;
+    let to = from + k;
+    let i = from + row_scan::index_of_row(&rows[from..to], name);
+    if i < to {
         return Choice::Raise(i, counts[i] + 1);
     }
-    let j = count_scan::index_of_count(counts, spill);
-    if j < counts.len() {
+    let j = from + count_scan::index_of_count(&counts[from..to], spill);
+    if j < to {
         return Choice::Take(j, spill + 1);
     }
     Choice::Spill(spill + 1)
@@ -81,7 +91,7 @@ pub fn follow(
 }
 
 // Every count becomes 0.
-fn clear_counts(counts: &mut [u32])
+pub fn clear_counts(counts: &mut [u32])
     ensures { λ _. ⌜ now (counts .exit) ≡ replicate (length (now (counts .entry))) 0 ⌝ }
 {
     let mut i: usize = 0;

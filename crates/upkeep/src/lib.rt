@@ -1,8 +1,10 @@
 // Set-up and tick, with the control record by value. Each answers for any settings and lent memory; where it refuses,
 // nothing lent is written.
 ghost use mathlib.Core.Path.{_≡_};
+ghost use Prim.Native.Nat.{_≤_};
+ghost use Rattle.banks.specs.Banks.{mostBanks};
 ghost use Rattle.engine.specs.State.{stateOf};
-ghost use Rattle.engine.specs.Calls.{notedOf, setUp, tick};
+ghost use Rattle.engine.specs.Calls.{notedOf, setUp, zeroBelow, tick};
 use geometry::Control;
 use geometry::Lengths;
 use geometry::Ring;
@@ -54,6 +56,16 @@ pub fn set_up(
     }
 }
 
+// Returns the numbers of the banks with those of the first b banks 0.
+fn zero_below(numbers: [u32; 16], b: usize) -> [u32; 16]
+    requires { ⌜ b ≤ mostBanks ⌝ }
+    ensures { λ r. ⌜ r ≡ zeroBelow b numbers ⌝ }
+{
+    let mut next = numbers;
+    tracker::clear_counts(&mut next[..b]);
+    next
+}
+
 // Tick: returns its number, and makes the tracker as new where it is 0.
 pub fn tick(
     control: Control,
@@ -75,11 +87,13 @@ pub fn tick(
         head: control.head,
         passed: control.passed,
     };
+    let spill = control.spill;
+    let acts = control.acts;
     let number = ladder::tick_number(
         s,
         ring,
-        control.spill,
-        control.acts,
+        &spill,
+        &acts,
         store,
         forward,
         reverse,
@@ -93,13 +107,16 @@ pub fn tick(
         };
     }
     tracker::reset(rows, counts);
+    let b = s.b as usize;
+    let next_spill = zero_below(spill, b);
+    let next_acts = zero_below(acts, b);
     Numbered {
         number: 0,
         control: Control {
             head: ring.head,
             passed: 0,
-            spill: 0,
-            acts: 0,
+            spill: next_spill,
+            acts: next_acts,
         },
     }
 }
