@@ -1,148 +1,80 @@
-// Read and write, with the control record by value. Each answers for any settings, arguments and lent memory; where it
-// refuses, nothing lent is written. The two pass the refusals by the same calls, one after the other, and share what
-// comes after the bytes (`stay`, `go`); what comes before them as one function of both was slower.
+// Read and write. Each answers for any settings, arguments and lent memory; where it refuses, nothing lent is written. The
+// control record comes by value, and what an access changes in it is given back as numbers: the ring, and the two numbers of
+// one bank (`banks::with_numbers` puts them in). The two pass the refusals by the same calls, one after the other; what comes
+// before the bytes as one function of both was slower.
 ghost use mathlib.Core.Path.{_≡_};
-ghost use mathlib.Core.List.{[]};
 ghost use Prim.Native.Nat.{suc, _<_};
-ghost use Rattle.tracking.specs.Choice.{followed};
-ghost use Rattle.engine.specs.State.{stateOf, controlOf, ringOf, storageOf};
-ghost use Rattle.engine.specs.Steps.{moveInto, relocated};
-ghost use Rattle.engine.specs.Calls.{accessedOf, read, write};
-ghost use Rattle.settle.specs.Settling.{Movable};
-ghost use Rattle.access.specs.Serving.{Countable};
-use engine::Access;
-use engine::Move;
+ghost use Rattle.banks.specs.Banks.{mostBanks, withNumbers};
+ghost use Rattle.tracking.specs.Entry.{spillAfter};
+ghost use Rattle.engine.specs.State.{stateOf};
+ghost use Rattle.figures.specs.Promises.{ReadPromise, WritePromise};
+ghost use Rattle.access.specs.Answers.{refusalOf, doneOf};
+use figures::Outcome;
 use geometry::Control;
-use geometry::ForwardEntry;
 use geometry::PhysicalRow;
-use geometry::ReverseEntry;
 use geometry::Ring;
 use geometry::Settings;
-use geometry::Slot;
 use geometry::VisibleRow;
-use tracking::Choice;
-use verdict::Verdict;
 
-// The answer of an access, and the control record after it.
+// The answer of an access in numbers, and what it leaves in the control record: the ring, and the numbers of a bank.
 pub struct Answered {
-    pub answer: Access,
-    pub control: Control,
+    pub outcome: Outcome,
+    pub ring: Ring,
+    pub bank: usize,
+    pub spill: u32,
+    pub acts: u32,
 }
 
-// Returns the answer of a refusal, which leaves the control record.
+// Returns the answer of a refusal, which leaves the control record: the numbers of the first bank stay.
 fn refused(control: Control, number: u32) -> Answered
-    ensures { λ r. ⌜ r ≡ record { answer = Access.Refused number; control = control } ⌝ }
+    ensures { λ r. ⌜ r ≡ refusalOf control number ⌝ }
 {
     Answered {
-        answer: Access::Refused(number),
-        control: control,
+        outcome: Outcome {
+            number: number,
+            slot: 65535,
+            row: 65535,
+            estimate: 0,
+            place: 0,
+        },
+        ring: Ring {
+            head: control.head,
+            passed: control.passed,
+        },
+        bank: 0,
+        spill: control.spill[0],
+        acts: control.acts[0],
     }
 }
 
-// Returns the answer of an accepted access, with `acts` risen by 1 (step 3).
+// Returns the answer of an accepted access: the bank's `spill` is as step 2 leaves it, and its `acts` has risen by 1 (step
+// 3). slot: the slot moved to, row: the row sent home, 65535 for none.
 fn done(
     ring: Ring,
+    bank: usize,
     spill: u32,
     acts: u32,
     place: PhysicalRow,
     estimate: u32,
-    moved: Move,
+    slot: u32,
+    row: u32,
 ) -> Answered
-    requires { ⌜ acts < 1360000 ⌝ }
-    ensures { λ r.
-        let next = controlOf ring spill (suc acts) in
-        ⌜ r ≡ record { answer = Access.Done place estimate moved; control = next } ⌝ }
+    requires { ⌜ (spill < 65536) × (acts < 1360000) ⌝ }
+    ensures { λ r. ⌜ r ≡ doneOf ring bank spill acts (place .0) estimate slot row ⌝ }
 {
     Answered {
-        answer: Access::Done {
-            place: place,
+        outcome: Outcome {
+            number: 0,
+            slot: slot,
+            row: row,
             estimate: estimate,
-            moved: moved,
+            place: place.0,
         },
-        control: Control {
-            head: ring.head,
-            passed: ring.passed,
-            spill: spill,
-            acts: acts + 1,
-        },
+        ring: ring,
+        bank: bank,
+        spill: tracker::spill_after(estimate, spill),
+        acts: acts + 1,
     }
-}
-
-// What is left to do after the bytes where the row stays: step 2, and `acts`.
-fn stay(
-    control: Control,
-    place: PhysicalRow,
-    choice: Choice,
-    rows: &mut [u16],
-    counts: &mut [u32],
-) -> Answered
-    requires { ⌜ Countable (control .acts) (place .0) choice (now rows) (now counts) ⌝ }
-    ensures { λ r.
-        let t = followed choice (place .0) (now (rows .entry)) (now (counts .entry)) (control .spill) in
-        let next = controlOf (ringOf control) (t .spill) (suc (control .acts)) in
-        ⌜ (r ≡ record { answer = Access.Done place (t .estimate) Move.Stayed; control = next })
-        × (now (rows .exit) ≡ t .rows) × (now (counts .exit) ≡ t .counts) ⌝ }
-{
-    let spill = tracker::follow(choice, place, rows, counts, control.spill);
-    let ring = Ring {
-        head: control.head,
-        passed: control.passed,
-    };
-    let estimate = tracker::estimate(choice);
-    done(ring, spill, control.acts, place, estimate, Move::Stayed)
-}
-
-// What is left to do after the bytes where the row is quarantined: step 2, `acts`, and step 4.
-fn go(
-    control: Control,
-    s: Settings,
-    row: VisibleRow,
-    entry: ForwardEntry,
-    place: PhysicalRow,
-    choice: Choice,
-    d: Slot,
-    held: ReverseEntry,
-    up: u32,
-    store: &mut [u8],
-    forward: &mut [u16],
-    reverse: &mut [u16],
-    rows: &mut [u16],
-    counts: &mut [u32],
-) -> Answered
-    requires { let lent = storageOf (now store) (now forward) (now reverse) (ringOf control) in
-        ⌜ Countable (control .acts) (place .0) choice (now rows) (now counts)
-        × Movable s (row .0) (entry .0) (place .0) (d .0) (held .0) up lent ⌝ }
-    ensures { λ r.
-        let before = storageOf (now (store .entry)) (now (forward .entry)) (now (reverse .entry)) (ringOf control) in
-        let m = moveInto (d .0) (held .0) in
-        let l = relocated s (row .0) (place .0) m before in
-        let t = followed choice (place .0) (now (rows .entry)) (now (counts .entry)) (control .spill) in
-        let next = controlOf (l .ring) (t .spill) (suc (control .acts)) in
-        ⌜ (r ≡ record { answer = Access.Done place (t .estimate) m; control = next })
-        × (storageOf (now (store .exit)) (now (forward .exit)) (now (reverse .exit)) (l .ring) ≡ l)
-        × (now (rows .exit) ≡ t .rows) × (now (counts .exit) ≡ t .counts) ⌝ }
-{
-    let spill = tracker::follow(choice, place, rows, counts, control.spill);
-    let ring = Ring {
-        head: control.head,
-        passed: control.passed,
-    };
-    let next = settle::relocate(
-        s,
-        ring,
-        row,
-        entry,
-        place,
-        d,
-        held,
-        up,
-        store,
-        forward,
-        reverse,
-    );
-    let estimate = tracker::estimate(choice);
-    let moved = settle::move_into(d, held);
-    done(next, spill, control.acts, place, estimate, moved)
 }
 
 // Read: the row's bytes go into the buffer where it is accepted.
@@ -157,22 +89,23 @@ pub fn read(
     rows: &mut [u16],
     counts: &mut [u32],
 ) -> Answered
-    ensures { λ r.
+    ensures bank { λ r. ⌜ r .bank < mostBanks ⌝ }
+    ensures promise { λ r.
         let before = stateOf (now (store .entry)) (now (forward .entry)) (now (reverse .entry))
         (now (rows .entry)) (now (counts .entry)) control in
         let after = stateOf (now (store .exit)) (now (forward .exit)) (now (reverse .exit))
-        (now (rows .exit)) (now (counts .exit)) (r .control) in
-        ⌜ accessedOf after (r .answer) (now (buffer .exit)) ≡ read s before row (now (buffer .entry)) ⌝ }
+        (now (rows .exit)) (now (counts .exit)) (withNumbers control (r .ring) (r .bank) (r .spill) (r .acts)) in
+        ⌜ ReadPromise s before row (now (buffer .entry)) after (r .outcome) (now (buffer .exit)) ⌝ }
 {
     let ring = Ring {
         head: control.head,
         passed: control.passed,
     };
-    let first = ladder::tick_number(
+    let first = ladder::first_bank_number(
         s,
         ring,
-        control.spill,
-        control.acts,
+        control.spill[0],
+        control.acts[0],
         store,
         forward,
         reverse,
@@ -182,6 +115,9 @@ pub fn read(
     if first != 0 {
         return refused(control, first);
     }
+    if ladder::others_unsound(s, control, counts) {
+        return refused(control, engine::CONTROL);
+    }
     let off = ladder::read_off(s, buffer.len());
     let entry = ladder::entry_of(forward, row);
     let number = ladder::row_number(s, row, off, entry, reverse);
@@ -189,44 +125,45 @@ pub fn read(
         return refused(control, number);
     }
     let place = verdict::place(s, VisibleRow(row as u16), entry);
-    let choice = tracker::choose(place, rows, counts, control.spill);
-    let verdict = verdict::decide(
-        s,
-        ring,
-        control.acts,
-        entry,
-        choice,
-        forward,
-        reverse,
-        rows,
-        counts,
-    );
-    match verdict {
-        Verdict::Stop(last) => refused(control, last),
-        Verdict::Stay => {
-            row_bytes::read_row(store, s.w as usize, place, buffer);
-            stay(control, place, choice, rows, counts)
-        }
-        Verdict::Go(d, held, up) => {
-            row_bytes::read_row(store, s.w as usize, place, buffer);
-            go(
-                control,
-                s,
-                VisibleRow(row as u16),
-                entry,
-                place,
-                choice,
-                d,
-                held,
-                up,
-                store,
-                forward,
-                reverse,
-                rows,
-                counts,
-            )
-        }
+    let bank = banks::bank_of(s, place);
+    let all_spill = control.spill;
+    let all_acts = control.acts;
+    let spill = banks::number_of(all_spill, bank);
+    let acts = banks::number_of(all_acts, bank);
+    let k = s.k as usize;
+    let i = tracker::find(place, k, bank, rows, counts, spill);
+    let estimate = tracker::estimate(i, bank * k + k, counts);
+    if acts == s.l {
+        return refused(control, engine::EPOCH);
     }
+    if verdict::is_due(s, estimate) {
+        let v = verdict::quarantine(s, ring, entry, i, forward, reverse, rows, counts);
+        let last = v.number;
+        if last != 0 {
+            return refused(control, last);
+        }
+        let d = v.d;
+        let held = v.held;
+        row_bytes::read_row(store, s.w as usize, place, buffer);
+        tracker::follow(i, estimate, place, rows, counts);
+        let next = settle::relocate(
+            s,
+            ring,
+            VisibleRow(row as u16),
+            entry,
+            place,
+            d,
+            held,
+            v.up,
+            store,
+            forward,
+            reverse,
+        );
+        return done(next, bank, spill, acts, place, estimate, d.0 as u32, held.0 as u32);
+    }
+    row_bytes::read_row(store, s.w as usize, place, buffer);
+    tracker::follow(i, estimate, place, rows, counts);
+    done(ring, bank, spill, acts, place, estimate, 65535, 65535)
 }
 
 // Write: the bytes go into the row from a column on where it is accepted.
@@ -242,22 +179,23 @@ pub fn write(
     rows: &mut [u16],
     counts: &mut [u32],
 ) -> Answered
-    ensures { λ r.
+    ensures bank { λ r. ⌜ r .bank < mostBanks ⌝ }
+    ensures promise { λ r.
         let before = stateOf (now (store .entry)) (now (forward .entry)) (now (reverse .entry))
         (now (rows .entry)) (now (counts .entry)) control in
         let after = stateOf (now (store .exit)) (now (forward .exit)) (now (reverse .exit))
-        (now (rows .exit)) (now (counts .exit)) (r .control) in
-        ⌜ accessedOf after (r .answer) [] ≡ write s before row column (now (bytes .entry)) ⌝ }
+        (now (rows .exit)) (now (counts .exit)) (withNumbers control (r .ring) (r .bank) (r .spill) (r .acts)) in
+        ⌜ WritePromise s before row column (now (bytes .entry)) after (r .outcome) ⌝ }
 {
     let ring = Ring {
         head: control.head,
         passed: control.passed,
     };
-    let first = ladder::tick_number(
+    let first = ladder::first_bank_number(
         s,
         ring,
-        control.spill,
-        control.acts,
+        control.spill[0],
+        control.acts[0],
         store,
         forward,
         reverse,
@@ -267,6 +205,9 @@ pub fn write(
     if first != 0 {
         return refused(control, first);
     }
+    if ladder::others_unsound(s, control, counts) {
+        return refused(control, engine::CONTROL);
+    }
     let off = ladder::write_off(s, column, bytes.len());
     let entry = ladder::entry_of(forward, row);
     let number = ladder::row_number(s, row, off, entry, reverse);
@@ -274,42 +215,43 @@ pub fn write(
         return refused(control, number);
     }
     let place = verdict::place(s, VisibleRow(row as u16), entry);
-    let choice = tracker::choose(place, rows, counts, control.spill);
-    let verdict = verdict::decide(
-        s,
-        ring,
-        control.acts,
-        entry,
-        choice,
-        forward,
-        reverse,
-        rows,
-        counts,
-    );
-    match verdict {
-        Verdict::Stop(last) => refused(control, last),
-        Verdict::Stay => {
-            row_bytes::write_row(store, s.w as usize, place, column, bytes);
-            stay(control, place, choice, rows, counts)
-        }
-        Verdict::Go(d, held, up) => {
-            row_bytes::write_row(store, s.w as usize, place, column, bytes);
-            go(
-                control,
-                s,
-                VisibleRow(row as u16),
-                entry,
-                place,
-                choice,
-                d,
-                held,
-                up,
-                store,
-                forward,
-                reverse,
-                rows,
-                counts,
-            )
-        }
+    let bank = banks::bank_of(s, place);
+    let all_spill = control.spill;
+    let all_acts = control.acts;
+    let spill = banks::number_of(all_spill, bank);
+    let acts = banks::number_of(all_acts, bank);
+    let k = s.k as usize;
+    let i = tracker::find(place, k, bank, rows, counts, spill);
+    let estimate = tracker::estimate(i, bank * k + k, counts);
+    if acts == s.l {
+        return refused(control, engine::EPOCH);
     }
+    if verdict::is_due(s, estimate) {
+        let v = verdict::quarantine(s, ring, entry, i, forward, reverse, rows, counts);
+        let last = v.number;
+        if last != 0 {
+            return refused(control, last);
+        }
+        let d = v.d;
+        let held = v.held;
+        row_bytes::write_row(store, s.w as usize, place, column, bytes);
+        tracker::follow(i, estimate, place, rows, counts);
+        let next = settle::relocate(
+            s,
+            ring,
+            VisibleRow(row as u16),
+            entry,
+            place,
+            d,
+            held,
+            v.up,
+            store,
+            forward,
+            reverse,
+        );
+        return done(next, bank, spill, acts, place, estimate, d.0 as u32, held.0 as u32);
+    }
+    row_bytes::write_row(store, s.w as usize, place, column, bytes);
+    tracker::follow(i, estimate, place, rows, counts);
+    done(ring, bank, spill, acts, place, estimate, 65535, 65535)
 }

@@ -3,9 +3,9 @@ use Prim.Native.Nat.{ℕ, zero, suc, _+_, _<_, _≤_}
 use native.Mathlib.Nat.{not-suc-le-zero, le-refl, mod-lt, mod-eq-of-lt}
 use native.Mathlib.Numerals.{add-one}
 use native.Mathlib.Omega.{arith}
-use mathlib.Core.Path.{_≡_, refl}
+use mathlib.Core.Path.{_≡_, refl, ap, _∙_}
 use mathlib.Core.Logic.{inl, inr}
-use mathlib.Core.Bool.{Bool, false, _||_}
+use mathlib.Core.Bool.{Bool, true, false, _||_}
 use Rattle.geometry.specs.declared.Settings.{Settings}
 use Rattle.geometry.proofs.Cases.{eq?}
 use Rattle.geometry.proofs.Tests.{or-left, or-right}
@@ -25,6 +25,20 @@ bank-itself S c b = mod-eq-of-lt b
 pub bank-more : (test : ℕ → Bool) (c : ℕ) {found next : Bool} → found ≡ someBank test c → next ≡ test c → (found || next) ≡ someBank test (c + 1)
 unfolding someBank
 bank-more test c e f = rw (add-one, e, f)
+
+-- the first bank, and the others
+or-joined : (a b c : Bool) → ((a || b) || c) ≡ (a || (b || c))
+or-joined true b c = refl
+or-joined false b c = refl
+
+pub bank-first : (test : ℕ → Bool) (n : ℕ) → someBank test (suc n) ≡ (test 0 || someBank (λ c. test (suc c)) n)
+unfolding someBank
+bank-first test zero = or-none (test 0)
+  where
+    or-none : (a : Bool) → (false || a) ≡ (a || false)
+    or-none true = refl
+    or-none false = refl
+bank-first test (suc n) = ap (λ (found : Bool). found || test (suc n)) (bank-first test n) ∙ or-joined (test 0) (someBank (λ c. test (suc c)) n) (test (suc n))
 
 -- no bank passes the test
 pub bank-none : (test : ℕ → Bool) (b : ℕ) → ((c : ℕ) → c < b → test c ≡ false) → someBank test b ≡ false

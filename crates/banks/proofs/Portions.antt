@@ -6,7 +6,7 @@ use mathlib.Core.Path.{_≡_, refl, sym, ap, _∙_}
 use mathlib.Core.Logic.{_⊎_, inl, inr, _≢_}
 use mathlib.Core.List.{List}
 use lib.ListN.{length, getD, set, take, drop, replicate, length-drop, length-set, length-replicate, getD-replicate}
-use lib.Seq.{length-paste, length-take-le, getD-take, getD-drop, ext-getD, take-set-lt, drop-set-add, getD-set-same, getD-set-other}
+use lib.Seq.{take-add, drop-at, length-paste, length-take-le, getD-take, getD-drop, ext-getD, take-set-lt, drop-set-add, getD-set-same, getD-set-other}
 use Rattle.geometry.proofs.Cases.{eq?, lt?}
 use Rattle.block_put.proofs.Pastes.{paste-in, paste-out}
 use Rattle.row_layout.proofs.Laws.{row-before, row-apart}
@@ -29,6 +29,13 @@ module _ (k c : ℕ) (xs : List ℕ) (fits : c * k + k ≤ length xs) where
   pub getD-portion : (i d : ℕ) → i < k → getD (portion k c xs) i d ≡ getD xs (c * k + i) d
   unfolding portion
   getD-portion i d b = getD-take k (drop (c * k) xs) i d b ∙ getD-drop (c * k) xs i d
+
+  -- it is what stands before its end, from its start on
+  pub portion-cut : portion k c xs ≡ drop (c * k) (take (c * k + k) xs)
+  unfolding portion
+  portion-cut =
+      sym (ap (drop (c * k)) (take-add (c * k) k xs)
+      ∙ drop-at (take (c * k) xs) (take k (drop (c * k) xs)) (c * k) (length-take-le (c * k) xs (omega arith)))
 
   -- one element is written
   module _ (i v : ℕ) (inside : i < k) where

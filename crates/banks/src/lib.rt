@@ -1,8 +1,9 @@
-// The banks of a rank: which bank a physical row belongs to, and which entries of the tracker's tables are a bank's
-// (document 02, Ask 5).
+// The banks of a rank: which bank a physical row belongs to, which entries of the tracker's tables are a bank's, and a
+// bank's numbers in the control record (document 02, Ask 5).
 ghost use mathlib.Core.Path.{_≡_};
 ghost use Prim.Native.Nat.{_≤_, _<_};
-ghost use Rattle.banks.specs.Banks.{bankOf};
+ghost use lib.ListN.{getD, set};
+ghost use Rattle.banks.specs.Banks.{mostBanks, bankOf};
 use geometry::PhysicalRow;
 use geometry::Settings;
 
@@ -11,8 +12,34 @@ pub fn bank_of(s: Settings, row: PhysicalRow) -> usize
     requires { ⌜ (1 ≤ s .b) × (row .0 < 65536) ⌝ }
     ensures { λ r. ⌜ r ≡ bankOf s (row .0) ⌝ }
 {
-    if s.b == 1 {
+    if s.b <= 1 {
         return 0;
     }
     ((row.0 as u32) % s.b) as usize
+}
+
+// Returns a bank's number. The first two have an index that the compiler knows, so that it needs no copy of the others for
+// them: an access with one bank pays for nothing else.
+pub fn number_of(numbers: [u32; 16], bank: usize) -> u32
+    requires { ⌜ bank < mostBanks ⌝ }
+    ensures { λ r. ⌜ r ≡ getD numbers bank 0 ⌝ }
+{
+    if bank == 0 {
+        return numbers[0];
+    }
+    if bank == 1 {
+        return numbers[1];
+    }
+    let all = numbers;
+    all[bank]
+}
+
+// Returns the numbers with another one of a bank.
+pub fn with_number(numbers: [u32; 16], bank: usize, number: u32) -> [u32; 16]
+    requires { ⌜ bank < mostBanks ⌝ }
+    ensures { λ r. ⌜ r ≡ set numbers bank number ⌝ }
+{
+    let mut next = numbers;
+    next[bank] = number;
+    next
 }

@@ -17,7 +17,7 @@ use Rattle.banks.specs.Banks.{mostBanks, bankOf}
 use Rattle.banks.proofs.Portions.{portion-fits, length-portion, length-withPortion, portion-same, portion-other, portion-replicate}
 use Rattle.banks.proofs.Banks.{bank-in, bank-itself}
 use Rattle.tracking.specs.Track.{Tracked, track}
-use Rattle.tracking.proofs.Choices.{track-long}
+use Rattle.tracking.proofs.Entries.{track-long}
 use Rattle.tracking.proofs.Sums.{quotients, sum-portions}
 use Rattle.tracking.proofs.Tracking.{estimateOf}
 use Rattle.tracking.proofs.View.{Counting, Tracks, quotients-few}
@@ -92,12 +92,12 @@ module _ (S : Settings) (σ : State) (r : ℕ) (some : 1 ≤ S .b) (rows-long : 
   pub tracked-rows-long : length ((tracked S σ r) .rows) ≡ S .k
   tracked-rows-long =
       let t : Tracker = trackerAt S σ p in
-      track-long p (t .rows) (t .counts) (t .spill) .0 ∙ long-of (σ .rows) rows-long
+      track-long p (t .rows) (t .counts) (t .spill) entries-alike .0 ∙ long-of (σ .rows) rows-long
 
   pub tracked-counts-long : length ((tracked S σ r) .counts) ≡ S .k
   tracked-counts-long =
       let t : Tracker = trackerAt S σ p in
-      track-long p (t .rows) (t .counts) (t .spill) .1 ∙ long-of (σ .counts) counts-long
+      track-long p (t .rows) (t .counts) (t .spill) entries-alike .1 ∙ long-of (σ .counts) counts-long
 
   -- the entries of a row's bank
   module _ (x : ℕ) where

@@ -18,7 +18,7 @@ placeOf (Refused x) = 0
 placeOf (Done p e m) = p .0
 
 -- 'the estimate after the access, or 0 where only `spill` rose' (document 02, Ask 2); the tracker's own estimates have the
--- names `estimateBy` (of a way of step 2) and `estimateOf` (of a place, in proofs)
+-- names `estimateAt` (of an entry, in step 2) and `estimateOf` (of a place, in proofs)
 abbrev pub estimateIn : Access → ℕ
 estimateIn (Refused x) = 0
 estimateIn (Done p e m) = e

@@ -3,10 +3,12 @@ ghost use mathlib.Core.Path.{_≡_};
 ghost use Prim.Native.Nat.{_*_, _≤_};
 ghost use lib.ListN.{length, getD};
 ghost use Rattle.geometry.specs.Entry.{empty};
-ghost use Rattle.engine.specs.State.{stateOf, controlOf};
+ghost use Rattle.engine.specs.State.{stateOf};
 ghost use Rattle.banks.specs.Banks.{mostBanks};
-ghost use Rattle.engine.specs.Ladder.{settingsNumber, fitNumber, ringUnsound, trackerUnsound, trackersUnsound, tickNumber};
+ghost use Rattle.engine.specs.Ladder.{settingsNumber, fitNumber, ringUnsound, trackerUnsound, tickNumber};
 ghost use Rattle.engine.specs.Ladder.{pointsBack, rowNumber, readOff, writeOff};
+ghost use Rattle.ladder.specs.Stages.{othersUnsound, lengthsBy, firstBankNumber};
+use geometry::Control;
 use geometry::ForwardEntry;
 use geometry::Lengths;
 use geometry::Ring;
@@ -53,16 +55,20 @@ fn tracker_unsound(s: Settings, spill: u32, acts: u32, counts: &[u32]) -> bool
     (s.l < acts) | (acts < spill) | (s.a <= spill) | count_scan::any_above(counts, acts)
 }
 
-// Tells whether 4 applies because of the numbers of some bank below B. spill, acts: by bank.
-fn trackers_unsound(s: Settings, spill: &[u32], acts: &[u32], counts: &[u32]) -> bool
-    requires { ⌜
-        (s .b ≤ length (now spill)) × (s .b ≤ length (now acts)) × (length (now counts) ≡ s .b * s .k) ⌝ }
-    ensures { λ r. ⌜ r ≡ trackersUnsound s (now (spill .entry)) (now (acts .entry)) (now (counts .entry)) ⌝ }
+// Tells whether 4 applies because of the numbers of some bank from the second on. One bank, the usual case, is told at once.
+pub fn others_unsound(s: Settings, control: Control, counts: &[u32]) -> bool
+    requires { ⌜ (1 ≤ s .b) × (s .b ≤ mostBanks) × (length (now counts) ≡ s .b * s .k) ⌝ }
+    ensures { λ r. ⌜ r ≡ othersUnsound s (control .spill) (control .acts) (now (counts .entry)) ⌝ }
 {
+    if s.b == 1 {
+        return false;
+    }
+    let spill = control.spill;
+    let acts = control.acts;
     let k = s.k as usize;
     let b = s.b as usize;
     let mut found = false;
-    let mut bank: usize = 0;
+    let mut bank: usize = 1;
     while bank < b {
         let from = bank * k;
         let to = from + k;
@@ -72,23 +78,22 @@ fn trackers_unsound(s: Settings, spill: &[u32], acts: &[u32], counts: &[u32]) ->
     found
 }
 
-// Returns the first of 1 to 4 that applies, or 0: the number of a tick, and what every call but set-up has to pass.
-pub fn tick_number(
+// Returns the first of 1 to 4 that applies, or 0, where 4 judges the first bank alone. spill, acts: of the first bank.
+pub fn first_bank_number(
     s: Settings,
     ring: Ring,
-    spill: &[u32],
-    acts: &[u32],
+    spill: u32,
+    acts: u32,
     store: &[u8],
     forward: &[u16],
     reverse: &[u16],
     rows: &[u16],
     counts: &[u32],
 ) -> u32
-    requires { ⌜ (mostBanks ≤ length (now spill)) × (mostBanks ≤ length (now acts)) ⌝ }
     ensures { λ r.
-        let lent = stateOf (now (store .entry)) (now (forward .entry)) (now (reverse .entry))
-        (now (rows .entry)) (now (counts .entry)) (controlOf ring (now (spill .entry)) (now (acts .entry))) in
-        ⌜ r ≡ tickNumber s lent ⌝ }
+        let lent = lengthsBy (length (now (store .entry))) (length (now (forward .entry))) (length (now (reverse .entry)))
+        (length (now (rows .entry))) (length (now (counts .entry))) in
+        ⌜ r ≡ firstBankNumber s lent ring spill acts (now (counts .entry)) ⌝ }
 {
     let lent = Lengths {
         store: store.len(),
@@ -101,7 +106,47 @@ pub fn tick_number(
     if number != 0 {
         return number;
     }
-    if ring_unsound(s, ring) | trackers_unsound(s, spill, acts, counts) {
+    let k = s.k as usize;
+    if ring_unsound(s, ring) | tracker_unsound(s, spill, acts, &counts[..k]) {
+        return engine::CONTROL;
+    }
+    0
+}
+
+// Returns the first of 1 to 4 that applies, or 0: the number of a tick, and what every call but set-up has to pass.
+pub fn tick_number(
+    s: Settings,
+    control: Control,
+    store: &[u8],
+    forward: &[u16],
+    reverse: &[u16],
+    rows: &[u16],
+    counts: &[u32],
+) -> u32
+    ensures { λ r.
+        let lent = stateOf (now (store .entry)) (now (forward .entry)) (now (reverse .entry))
+        (now (rows .entry)) (now (counts .entry)) control in
+        ⌜ r ≡ tickNumber s lent ⌝ }
+{
+    let ring = Ring {
+        head: control.head,
+        passed: control.passed,
+    };
+    let number = first_bank_number(
+        s,
+        ring,
+        control.spill[0],
+        control.acts[0],
+        store,
+        forward,
+        reverse,
+        rows,
+        counts,
+    );
+    if number != 0 {
+        return number;
+    }
+    if others_unsound(s, control, counts) {
         return engine::CONTROL;
     }
     0

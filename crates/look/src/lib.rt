@@ -10,7 +10,6 @@ ghost use Rattle.engine.specs.Ladder.{inspectNumber};
 ghost use Rattle.engine.specs.Calls.{inspectPart};
 use geometry::Control;
 use geometry::PhysicalRow;
-use geometry::Ring;
 use geometry::Settings;
 use geometry::VisibleRow;
 
@@ -30,23 +29,7 @@ pub fn inspect_number(
         (now (rows .entry)) (now (counts .entry)) control in
         ⌜ r ≡ inspectNumber s lent row ⌝ }
 {
-    let ring = Ring {
-        head: control.head,
-        passed: control.passed,
-    };
-    let spill = control.spill;
-    let acts = control.acts;
-    let first = ladder::tick_number(
-        s,
-        ring,
-        &spill,
-        &acts,
-        store,
-        forward,
-        reverse,
-        rows,
-        counts,
-    );
+    let first = ladder::tick_number(s, control, store, forward, reverse, rows, counts);
     if first != 0 {
         return first;
     }

@@ -56,11 +56,11 @@ pub fn read_core(
         rows,
         counts,
     );
-    let answer = t.answer;
-    let next = t.control;
+    let ring = t.ring;
+    let outcome = t.outcome;
     Reported {
-        outcome: figures::numbers_of(answer),
-        control: next,
+        outcome: outcome,
+        control: banks::with_numbers(control, ring, t.bank, t.spill, t.acts),
     }
 }
 
@@ -96,11 +96,11 @@ pub fn write_core(
         rows,
         counts,
     );
-    let answer = t.answer;
-    let next = t.control;
+    let ring = t.ring;
+    let outcome = t.outcome;
     Reported {
-        outcome: figures::numbers_of(answer),
-        control: next,
+        outcome: outcome,
+        control: banks::with_numbers(control, ring, t.bank, t.spill, t.acts),
     }
 }
 

@@ -1,3 +1,5 @@
+pub mod LeftOut
+pub mod OfBank
 pub mod Turns
 pub mod Marks
 pub mod Before

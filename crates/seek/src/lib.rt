@@ -1,8 +1,8 @@
 // The search for the destination of a row that is quarantined (step 4): how many slots the head skips. It looks at the
-// tracker as it is before step 2, and leaves out the entry that step 2 will change. Nothing lent is written here.
-// For each of the first 16 slots the tracker is searched. Where all of them are skipped, the worn slots are marked in one
-// pass over the tracker: an access that is refused for want of a slot, again and again, would else search the tracker
-// for each slot that is left.
+// trackers as they are before step 2, and leaves out the entry that step 2 will change. Nothing lent is written here.
+// For each of the first 16 slots the tracker of the slot's bank is searched. Where all of them are skipped, the worn slots
+// are marked in one pass over the trackers: an access that is refused for want of a slot, again and again, would else
+// search a tracker for each slot that is left.
 ghost use mathlib.Core.Path.{_≡_};
 ghost use mathlib.Core.Logic.{_≢_};
 ghost use mathlib.Core.Bool.{false, cond};
@@ -37,13 +37,7 @@ fn lowest_but(rows: &[u16], from: usize, changed: usize, name: u16) -> usize
 
 // Tells whether the lowest entry of a physical row's bank that names the row, but for the entry left out, has a count of the
 // threshold or more.
-fn is_worn(
-    s: Settings,
-    changed: usize,
-    row: PhysicalRow,
-    rows: &[u16],
-    counts: &[u32],
-) -> bool
+fn is_worn(s: Settings, changed: usize, row: PhysicalRow, rows: &[u16], counts: &[u32]) -> bool
     requires { ⌜ Seekable s changed (now rows) (now counts) × (row .0 < empty) ⌝ }
     ensures { λ r. ⌜ r ≡ wornBefore s changed (now (rows .entry)) (now (counts .entry)) (row .0) ⌝ }
 {
@@ -122,16 +116,18 @@ fn unmarked() -> [bool; 5500]
     [false; 5500]
 }
 
-// Marks the slot whose physical row an entry of a bank names as worn or not, where it names one of that bank.
+// Marks the slot whose physical row an entry of a bank names as worn or not, where it names one of that bank. (first: the
+// physical row of slot 0)
 fn mark(s: Settings, bank: usize, name: u16, is: bool, marks: &mut [bool])
     requires { ⌜ 1 ≤ s .b ⌝ }
     ensures { λ _. ⌜ now (marks .exit) ≡ markedBy s bank name is (now (marks .entry)) ⌝ }
 {
     let row = name as u32;
-    if row < s.n {
+    let first = s.n;
+    if row < first {
         return;
     }
-    let slot = (row - s.n) as usize;
+    let slot = (row - first) as usize;
     if slot < marks.len() {
         if banks::bank_of(s, PhysicalRow(row as u64)) == bank {
             marks[slot] = is;
@@ -149,7 +145,7 @@ fn mark_bank(
     marks: &mut [bool],
 )
     requires { ⌜
-        Seekable s changed (now rows) (now counts) × (bank < s .b) × (s .q ≤ length (now marks)) 
+        Seekable s changed (now rows) (now counts) × (bank < s .b) × (s .q ≤ length (now marks))
         × ((i : ℕ) → i < s .q → bankOf s (slotRow s i) ≡ bank → getD (now marks) i false ≡ false) ⌝ }
     ensures { λ _.
         ⌜ MarkedIn s changed (now (rows .entry)) (now (counts .entry)) bank (now (marks .entry)) (now (marks .exit)) ⌝ }
@@ -171,8 +167,9 @@ fn mark_worn(s: Settings, changed: usize, rows: &[u16], counts: &[u32], marks: &
         Seekable s changed (now rows) (now counts) × (now marks ≡ replicate 5500 false) ⌝ }
     ensures { λ _. ⌜ Marked s changed (now (rows .entry)) (now (counts .entry)) (now (marks .exit)) ⌝ }
 {
+    let all = s.b as usize;
     let mut bank: usize = 0;
-    while bank < (s.b as usize) {
+    while bank < all {
         mark_bank(s, bank, changed, rows, counts, marks);
         bank += 1;
     }

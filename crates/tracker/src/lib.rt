@@ -1,92 +1,76 @@
-// The tracker over lent tables: step 2 of an access, chosen and then followed, and the start of an epoch.
+// The tracker over lent tables: step 2 of an access, in the bank of its place, and the start of an epoch. The entry that step
+// 2 changes is found first, which writes nothing; then it is followed.
 ghost use mathlib.Core.Path.{_≡_};
+ghost use mathlib.Core.Logic.{_≢_};
 ghost use mathlib.Core.Bool.{false};
 ghost use Prim.Native.Nat.{_+_, _*_, _<_, _≤_};
 ghost use lib.Dec.{ltb};
-ghost use lib.ListN.{length, replicate};
+ghost use lib.ListN.{length, getD, replicate};
 ghost use Rattle.geometry.specs.Entry.{empty};
-ghost use Rattle.scan.specs.Scan.{some};
-ghost use Rattle.banks.specs.Portions.{portion};
-ghost use Rattle.tracking.specs.Choice.{choiceIn, estimateBy, entryBy, followed, Within, trackedOf};
+ghost use Rattle.tracking.specs.Entry.{entryIn, estimateAt, rowsAfter, countsAfter, spillAfter};
 use geometry::PhysicalRow;
-pub use tracking::Choice;
 
-// The way that step 2 goes at a place of that bank, each bank having k entries of the tables. Nothing is written.
-pub fn choose(
+// Returns the entry that step 2 changes at a place of that bank, each bank having k entries of the tables; the end of the
+// bank's entries where there is none.
+pub fn find(
     place: PhysicalRow,
     k: usize,
     bank: usize,
     rows: &[u16],
     counts: &[u32],
     spill: u32,
-) -> Choice
+) -> usize
     requires { ⌜
-        (place .0 < 65536) × (bank * k + k ≤ length (now rows)) × (bank * k + k ≤ length (now counts))
-        × (some (λ count. ltb 4294967294 count) (portion k bank (now counts)) ≡ false) × (spill < 4294967295) ⌝ }
-    ensures { λ r. ⌜ r ≡ choiceIn k bank (place .0) (now (rows .entry)) (now (counts .entry)) spill ⌝ }
+        (place .0 < 65536) × (bank * k + k ≤ length (now rows)) × (bank * k + k ≤ length (now counts)) ⌝ }
+    ensures { λ r. ⌜ r ≡ entryIn k bank (place .0) (now (rows .entry)) (now (counts .entry)) spill ⌝ }
 {
-    let name = place.0 as u16;
     let from = bank * k;
     let to = from + k;
-    let i = from + row_scan::index_of_row(&rows[from..to], name);
+    let i = from + row_scan::index_of_row(&rows[from..to], place.0 as u16);
     if i < to {
-        return Choice::Raise(i, counts[i] + 1);
+        return i;
     }
-    let j = from + count_scan::index_of_count(&counts[from..to], spill);
-    if j < to {
-        return Choice::Take(j, spill + 1);
-    }
-    Choice::Spill(spill + 1)
+    from + count_scan::index_of_count(&counts[from..to], spill)
 }
 
-// The estimate of a way, 0 for none.
-pub fn estimate(choice: Choice) -> u32
-    ensures { λ r. ⌜ r ≡ estimateBy choice ⌝ }
+// Returns the estimate of step 2 with the entry that `find` gave, 0 for none. to: the end of the bank's entries.
+pub fn estimate(entry: usize, to: usize, counts: &[u32]) -> u32
+    requires { ⌜ (to ≤ length (now counts)) × (entry < to → getD (now counts) entry 0 < 4294967295) ⌝ }
+    ensures { λ r. ⌜ r ≡ estimateAt entry to (now (counts .entry)) ⌝ }
 {
-    match choice {
-        Choice::Raise(_, count) => count,
-        Choice::Take(_, count) => count,
-        Choice::Spill(_) => 0,
+    if entry < to {
+        return counts[entry] + 1;
     }
+    0
 }
 
-// The entry that a way changes, of an access that has an estimate.
-pub fn entry(choice: Choice) -> usize
-    ensures { λ r. ⌜ r ≡ entryBy choice ⌝ }
+// Returns the bank's `spill` after step 2.
+pub fn spill_after(estimate: u32, spill: u32) -> u32
+    requires { ⌜ spill < 4294967295 ⌝ }
+    ensures { λ r. ⌜ r ≡ spillAfter estimate spill ⌝ }
 {
-    match choice {
-        Choice::Raise(i, _) => i,
-        Choice::Take(i, _) => i,
-        Choice::Spill(_spill) => 0,
+    if estimate != 0 {
+        return spill;
     }
+    spill + 1
 }
 
-// Follows a way in the tables, and gives the new `spill`.
+// Follows step 2 in the tables.
 pub fn follow(
-    choice: Choice,
+    entry: usize,
+    estimate: u32,
     place: PhysicalRow,
     rows: &mut [u16],
     counts: &mut [u32],
-    spill: u32,
-) -> u32
+)
     requires { ⌜
-        (place .0 < 65536) × (Within (length (now rows)) choice) × (Within (length (now counts)) choice) ⌝ }
-    ensures { λ r.
-        let after = trackedOf (now (rows .exit)) (now (counts .exit)) r (estimateBy choice) in
-        ⌜ after ≡ followed choice (place .0) (now (rows .entry)) (now (counts .entry)) spill ⌝ }
+        (place .0 < 65536) × (estimate ≢ 0 → entry < length (now rows)) × (estimate ≢ 0 → entry < length (now counts)) ⌝ }
+    ensures rows { λ _. ⌜ now (rows .exit) ≡ rowsAfter entry estimate (place .0) (now (rows .entry)) ⌝ }
+    ensures counts { λ _. ⌜ now (counts .exit) ≡ countsAfter entry estimate (now (counts .entry)) ⌝ }
 {
-    let name = place.0 as u16;
-    match choice {
-        Choice::Raise(i, count) => {
-            counts[i] = count;
-            spill
-        }
-        Choice::Take(i, count) => {
-            rows[i] = name;
-            counts[i] = count;
-            spill
-        }
-        Choice::Spill(next) => next,
+    if estimate != 0 {
+        rows[entry] = place.0 as u16;
+        counts[entry] = estimate;
     }
 }
 

@@ -1,92 +1,118 @@
--- Step 2 in one bank: the way in the tables of all banks, and what following it leaves. Assumes nothing.
-use Prim.Native.Nat.{ℕ, _+_, _*_, _<_, _≤_}
+-- Step 2 in one bank: its entry among those of all banks, and what following it leaves. Assumes nothing.
+use Prim.Native.Nat.{ℕ, suc, _+_, _*_, _<_, _≤_}
 use native.Mathlib.Omega.{arith}
-use mathlib.Core.Path.{_≡_, refl, sym, ap, _∙_, subst}
-use mathlib.Core.Logic.{_≢_}
+use mathlib.Core.Path.{_≡_, sym, ap, _∙_}
+use mathlib.Core.Logic.{inl, inr, _≢_}
 use mathlib.Core.List.{List}
-use lib.ListN.{length, getD}
+use lib.Dec.{eqb}
+use lib.ListN.{length}
+use borrow.Author.Tests.{lt-ltb, le-ltb, eqb-false}
+use Rattle.geometry.proofs.Cases.{split, lt?}
 use Rattle.banks.specs.Portions.{portion, withPortion}
 use Rattle.banks.proofs.Portions.{length-portion, getD-portion, set-portion, portion-own}
-use Rattle.tracking.specs.declared.Choice.{Choice}
-use Rattle.tracking.specs.declared.Choice.the-variants.{Raise, Take, Spill}
 use Rattle.scan.specs.Scan.{indexOf}
 use Rattle.tracking.specs.Track.{Tracked, track}
-use Rattle.tracking.specs.Choice.{choiceOf, shiftedBy, choiceIn, estimateBy, entryBy, followed, Within}
-use Rattle.tracking.proofs.Choices.{choice-raise, choice-take, choice-spill, follow-choice, within-choice}
-
--- the tables of all banks with what step 2 leaves in bank c
-abbrev pub trackedIn : ℕ → ℕ → List ℕ → List ℕ → Tracked → Tracked
-trackedIn k c rows counts t =
-    record { rows = withPortion k c rows (t .rows); counts = withPortion k c counts (t .counts); spill = t .spill; estimate = t .estimate }
+use Rattle.tracking.specs.Entry.{entryOf, entryIn, estimateAt, rowsAfter, countsAfter, spillAfter}
+use Rattle.tracking.proofs.Entries.{followed, follow-entry, entry-most}
 
 module _ (k c : ℕ) (rows counts : List ℕ) (rows-fit : c * k + k ≤ length rows) (counts-fit : c * k + k ≤ length counts) (p spill : ℕ) where
-  follow-shifted : (choice : Choice) → Within k choice
-      → followed (shiftedBy (c * k) choice) p rows counts spill
-      ≡ trackedIn k c rows counts (followed choice p (portion k c rows) (portion k c counts) spill)
-  follow-shifted (Raise i count) w = rw (set-portion k c counts counts-fit i count w, portion-own k c rows rows-fit)
-  follow-shifted (Take i count) w = rw (set-portion k c counts counts-fit i count w, set-portion k c rows rows-fit i p w)
-  follow-shifted (Spill next) w = rw (portion-own k c rows rows-fit, portion-own k c counts counts-fit)
-
-  abbrev inside : Choice
-  inside = choiceOf p (portion k c rows) (portion k c counts) spill
-
   rows-long : length (portion k c rows) ≡ k
   rows-long = length-portion k c rows rows-fit
 
   counts-long : length (portion k c counts) ≡ k
   counts-long = length-portion k c counts counts-fit
 
-  within : Within k inside
-  within = subst (λ (n : ℕ). Within n inside) counts-long (within-choice p (portion k c rows) (portion k c counts) spill (rows-long ∙ sym counts-long))
+  alike : length (portion k c rows) ≡ length (portion k c counts)
+  alike = rows-long ∙ sym counts-long
 
-  pub follow-in : followed (choiceIn k c p rows counts spill) p rows counts spill
-      ≡ trackedIn k c rows counts (track p (portion k c rows) (portion k c counts) spill)
-  unfolding choiceIn
-  follow-in =
-      follow-shifted inside within
-      ∙ ap (trackedIn k c rows counts) (follow-choice p (portion k c rows) (portion k c counts) spill)
+  -- the entry among those of the bank
+  abbrev i : ℕ
+  i = entryOf p (portion k c rows) (portion k c counts) spill
 
-  -- ---- the way, told by what the two searches of the bank's entries answer
+  abbrev t : Tracked
+  t = track p (portion k c rows) (portion k c counts) spill
 
-  module _ (i : ℕ) (ei : i ≡ indexOf p (portion k c rows)) where
-    pub choice-in-raise : i < k → Raise (c * k + i) (getD counts (c * k + i) 0 + 1) ≡ choiceIn k c p rows counts spill
-    unfolding choiceIn
-    choice-in-raise h =
-        rw (← getD-portion k c counts counts-fit i 0 h)
-        (ap (shiftedBy (c * k)) (choice-raise p (portion k c rows) (portion k c counts) spill i ei (omega (arith, rows-long))))
+  -- and among those of all banks, with its estimate
+  abbrev entry : ℕ
+  entry = entryIn k c p rows counts spill
 
-    module _ (j : ℕ) (ej : j ≡ indexOf spill (portion k c counts)) where
-      pub choice-in-take : k ≤ i → j < k → Take (c * k + j) (spill + 1) ≡ choiceIn k c p rows counts spill
-      unfolding choiceIn
-      choice-in-take h g =
-          ap (shiftedBy (c * k))
-          (choice-take p (portion k c rows) (portion k c counts) spill i ei j ej (omega (arith, rows-long)) (omega (arith, counts-long)))
+  abbrev estimate : ℕ
+  estimate = estimateAt entry (c * k + k) counts
 
-      pub choice-in-spill : k ≤ i → k ≤ j → Spill (spill + 1) ≡ choiceIn k c p rows counts spill
-      unfolding choiceIn
-      choice-in-spill h g =
-          ap (shiftedBy (c * k))
-          (choice-spill p (portion k c rows) (portion k c counts) spill i ei j ej (omega (arith, rows-long)) (omega (arith, counts-long)))
+  told : followed i (estimateAt i (length (portion k c counts)) (portion k c counts)) p (portion k c rows) (portion k c counts) spill ≡ t
+  told = follow-entry p (portion k c rows) (portion k c counts) spill alike
 
-  -- ---- its estimate and its entry
+  pub entry-in-most : entry ≤ c * k + k
+  unfolding entryIn
+  entry-in-most = omega (arith, counts-long, entry-most p (portion k c rows) (portion k c counts) spill alike)
 
-  shifted-within : (n : ℕ) (choice : Choice) → c * k + k ≤ n → Within k choice → Within n (shiftedBy (c * k) choice)
-  shifted-within n (Raise i count) room w = omega (arith, w)
-  shifted-within n (Take i count) room w = omega (arith, w)
-  shifted-within n (Spill next) room w = tt
+  estimate-is : estimate ≡ estimateAt i (length (portion k c counts)) (portion k c counts)
+  unfolding entryIn estimateAt
+  estimate-is =
+      elim (lt? i k) [
+        | inl h ↦
+            let inside : i < length (portion k c counts) = omega (arith, counts-long) in
+            rw (lt-ltb (c * k + i) (c * k + k) (omega arith), lt-ltb i (length (portion k c counts)) inside) (ap suc (sym (getD-portion k c counts counts-fit i 0 h)))
+        | inr h ↦
+            let outside : length (portion k c counts) ≤ i = omega (arith, counts-long) in
+            rw (le-ltb (c * k + i) (c * k + k) (omega arith), le-ltb i (length (portion k c counts)) outside)
+      ]
 
-  -- the entry is in the tables
-  pub within-in : (n : ℕ) → c * k + k ≤ n → Within n (choiceIn k c p rows counts spill)
-  unfolding choiceIn
-  within-in n room = shifted-within n inside room within
+  -- an entry with an estimate is one of the bank's
+  pub entry-in-bank : estimate ≢ 0 → entry < c * k + k
+  unfolding estimateAt
+  entry-in-bank n =
+      elim (lt? entry (c * k + k)) [ inl h ↦ h | inr h ↦ absurd (n (rw (le-ltb entry (c * k + k) h))) ]
 
--- a way has the same estimate wherever its entry stands, and with an estimate its entry is so many further on
-pub shifted-estimate : (from : ℕ) (choice : Choice) → estimateBy (shiftedBy from choice) ≡ estimateBy choice
-shifted-estimate from (Raise i count) = refl
-shifted-estimate from (Take i count) = refl
-shifted-estimate from (Spill next) = refl
+  inside-bank : estimate ≢ 0 → i < k
+  unfolding entryIn
+  inside-bank n = omega (arith, entry-in-bank n)
 
-pub shifted-entry : (from : ℕ) (choice : Choice) → estimateBy choice ≢ 0 → entryBy (shiftedBy from choice) ≡ from + entryBy choice
-shifted-entry from (Raise i count) n = refl
-shifted-entry from (Take i count) n = refl
-shifted-entry from (Spill next) n = absurd (n refl)
+  -- ---- what is left
+
+  pub estimate-in : estimate ≡ t .estimate
+  estimate-in = estimate-is ∙ ap (λ (u : Tracked). u .estimate) told
+
+  pub spill-in : spillAfter estimate spill ≡ t .spill
+  spill-in = ap (λ (e : ℕ). spillAfter e spill) estimate-is ∙ ap (λ (u : Tracked). u .spill) told
+
+  rows-shift : (e : ℕ) → (e ≢ 0 → i < k) → rowsAfter (c * k + i) e p rows ≡ withPortion k c rows (rowsAfter i e p (portion k c rows))
+  unfolding rowsAfter
+  rows-shift e inside =
+      elim (split (eqb e 0)) [
+        | inl z ↦ rw z (sym (portion-own k c rows rows-fit))
+        | inr n ↦ rw n (sym (set-portion k c rows rows-fit i p (inside (eqb-false e 0 n))))
+      ]
+
+  counts-shift : (e : ℕ) → (e ≢ 0 → i < k) → countsAfter (c * k + i) e counts ≡ withPortion k c counts (countsAfter i e (portion k c counts))
+  unfolding countsAfter
+  counts-shift e inside =
+      elim (split (eqb e 0)) [
+        | inl z ↦ rw z (sym (portion-own k c counts counts-fit))
+        | inr n ↦ rw n (sym (set-portion k c counts counts-fit i e (inside (eqb-false e 0 n))))
+      ]
+
+  pub rows-in : rowsAfter entry estimate p rows ≡ withPortion k c rows (t .rows)
+  unfolding entryIn
+  rows-in =
+      rows-shift estimate inside-bank
+      ∙ ap (λ (e : ℕ). withPortion k c rows (rowsAfter i e p (portion k c rows))) estimate-is
+      ∙ ap (λ (u : Tracked). withPortion k c rows (u .rows)) told
+
+  pub counts-in : countsAfter entry estimate counts ≡ withPortion k c counts (t .counts)
+  unfolding entryIn
+  counts-in =
+      counts-shift estimate inside-bank
+      ∙ ap (λ (e : ℕ). withPortion k c counts (countsAfter i e (portion k c counts))) estimate-is
+      ∙ ap (λ (u : Tracked). withPortion k c counts (u .counts)) told
+
+  -- ---- told by what the two searches of the bank's entries answer
+
+  module _ (x : ℕ) (found : x ≡ indexOf p (portion k c rows)) where
+    pub entry-named : x < k → c * k + x ≡ entry
+    unfolding entryIn entryOf
+    entry-named h = rw (← found, lt-ltb x (length (portion k c rows)) (omega (arith, rows-long)))
+
+    pub entry-free : (y : ℕ) → y ≡ indexOf spill (portion k c counts) → k ≤ x → c * k + y ≡ entry
+    unfolding entryIn entryOf
+    entry-free y e h = rw (← found, le-ltb x (length (portion k c rows)) (omega (arith, rows-long)), e)

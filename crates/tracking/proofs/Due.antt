@@ -11,13 +11,17 @@ use Rattle.geometry.proofs.Cases.{split, lt?}
 use Rattle.geometry.proofs.Tests.{and-left, and-right}
 use Rattle.tracking.specs.Track.{isDue}
 
+-- there is one
+pub due-some : (a e : ℕ) → isDue a e ≡ true → e ≢ 0
+due-some a e d = eqb-false e 0 (not-true (eqb e 0) (and-left (not (eqb e 0)) (eqb (e % a) 0) d))
+
 -- none below the threshold
 pub due-least : (a e : ℕ) → isDue a e ≡ true → a ≤ e
 due-least a e d =
     elim (lt? e a) [
       | inl h ↦
-          let some : e ≢ 0 = eqb-false e 0 (not-true (eqb e 0) (and-left (not (eqb e 0)) (eqb (e % a) 0) d)) in
-          absurd (some (sym (mod-eq-of-lt h) ∙ eqb-true (e % a) 0 (and-right (not (eqb e 0)) (eqb (e % a) 0) d)))
+          let whole : e % a ≡ 0 = eqb-true (e % a) 0 (and-right (not (eqb e 0)) (eqb (e % a) 0) d) in
+          absurd (due-some a e d (sym (mod-eq-of-lt h) ∙ whole))
       | inr h ↦ h
     ]
 

@@ -1,4 +1,4 @@
-pub mod Choices
+pub mod Entries
 pub mod Banks
 pub mod Sums
 pub mod Tracking

@@ -17,7 +17,7 @@ use Rattle.scan.specs.Scan.{lowest, indexOf}
 use Rattle.scan.proofs.Scans.{lowest-le, index-found, index-set-other, index-set-either, index-set-new}
 use Rattle.tracking.specs.Track.{Tracked, track, isDue}
 use Rattle.tracking.specs.Worn.{worn}
-use Rattle.tracking.specs.Choice.{choiceOf, entryBy}
+use Rattle.tracking.specs.Entry.{entryOf}
 use Rattle.tracking.proofs.Sums.{getD-any}
 use Rattle.tracking.proofs.Due.{due-least}
 use Rattle.tracking.proofs.Tracking.{estimateOf}
@@ -123,8 +123,8 @@ module _ (a p : ℕ) (rows counts : List ℕ) (spill : ℕ) (long : length rows 
         ])
 
     pub worn-before : isDue a (after .estimate) ≡ true
-        → worn a (after .rows) (after .counts) x ≡ worn a (set rows (entryBy (choiceOf p rows counts spill)) empty) counts x
-    unfolding track choiceOf
+        → worn a (after .rows) (after .counts) x ≡ worn a (set rows (entryOf p rows counts spill) empty) counts x
+    unfolding track entryOf
     worn-before =
         let i : ℕ = indexOf p rows in
         let j : ℕ = indexOf spill counts in

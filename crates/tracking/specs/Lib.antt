@@ -1,3 +1,3 @@
 pub mod Track
-pub mod Choice
+pub mod Entry
 pub mod Worn

@@ -7,7 +7,6 @@ ghost use Rattle.engine.specs.State.{stateOf};
 ghost use Rattle.engine.specs.Calls.{notedOf, setUp, zeroBelow, tick};
 use geometry::Control;
 use geometry::Lengths;
-use geometry::Ring;
 use geometry::Settings;
 
 // The number of a call, and the control record after it.
@@ -83,23 +82,7 @@ pub fn tick(
         (now (rows .exit)) (now (counts .exit)) (r .control) in
         ⌜ notedOf after (r .number) ≡ tick s before ⌝ }
 {
-    let ring = Ring {
-        head: control.head,
-        passed: control.passed,
-    };
-    let spill = control.spill;
-    let acts = control.acts;
-    let number = ladder::tick_number(
-        s,
-        ring,
-        &spill,
-        &acts,
-        store,
-        forward,
-        reverse,
-        rows,
-        counts,
-    );
+    let number = ladder::tick_number(s, control, store, forward, reverse, rows, counts);
     if number != 0 {
         return Numbered {
             number: number,
@@ -108,12 +91,14 @@ pub fn tick(
     }
     tracker::reset(rows, counts);
     let b = s.b as usize;
+    let spill = control.spill;
+    let acts = control.acts;
     let next_spill = zero_below(spill, b);
     let next_acts = zero_below(acts, b);
     Numbered {
         number: 0,
         control: Control {
-            head: ring.head,
+            head: control.head,
             passed: 0,
             spill: next_spill,
             acts: next_acts,

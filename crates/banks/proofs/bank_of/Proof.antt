@@ -12,7 +12,8 @@ returns : tie.Need-returns
 unfolding bankOf
 returns c =
     let a = c .before .before .args in
-    sym (ap (λ (b : ℕ). a .row .0 % b) (c .if1 .taken) ∙ mod-one (a .row .0))
+    let one : a .s .b ≡ 1 = omega (arith, c .if1 .taken, c .before .before .pre .0) in
+    sym (ap (λ (b : ℕ). a .row .0 % b) one ∙ mod-one (a .row .0))
 
 cast-result : tie.Need-cast-result
 cast-result c = search needs

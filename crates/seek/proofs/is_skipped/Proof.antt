@@ -10,11 +10,17 @@ cast-if1 c = search needs
 returns : tie.Need-returns
 returns c = simp (eq-eqb _ _ (c .if1 .taken))
 
+add-t8 : tie.Need-add-t8
+add-t8 c = search needs
+
+cast-t10 : tie.Need-cast-t10
+cast-t10 c = search needs
+
 is-worn-requires : tie.Need-is-worn-requires
 is-worn-requires c κs = search needs
 
 returns-2 : tie.Need-returns-2
-returns-2 c = simp (ne-eqb _ _ (c .before .if1 .left)) (c .is-worn .ensures)
+returns-2 c = simp (ne-eqb _ _ (c .before .before .if1 .left)) (c .is-worn .ensures)
 
 pub is-skipped-spec : {M : Type 1} → statement M
-is-skipped-spec = tie.close (tie.spec cast-if1 returns is-worn-requires returns-2)
+is-skipped-spec = tie.close (tie.spec cast-if1 returns add-t8 cast-t10 is-worn-requires returns-2)

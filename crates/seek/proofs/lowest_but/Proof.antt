@@ -1,9 +1,7 @@
 -- `seek::lowest_but` meets its contract: where the lowest entry is the one left out, the next counts. Assumes nothing.
-use native.Mathlib.Nat.{zero-add}
-use mathlib.Core.Path.{sym, _∙_}
+use mathlib.Core.Path.{_∙_}
 use borrow.Author.Needs.{needs}
-use Rattle.geometry.specs.Entry.{empty}
-use Rattle.scan.proofs.Scans.{index-set-beside, index-set-next}
+use Rattle.seek.proofs.LeftOut.{lowest-beside, lowest-past, lowest-next}
 use Rattle.seek.proofs.lowest_but.Statement.{statement}
 use Rattle.seek.proofs.lowest_but.Tie as tie
 
@@ -18,22 +16,21 @@ index-from-requires-2 c κs = search needs
 
 returns : tie.Need-returns
 returns c =
-    let b = c .before .before .before .before in
-    let i = c .before .before .index-from .ensures ∙ zero-add _ in
-    let next =
-    index-set-next (b .args .name) (b .args .rows .now) (b .args .changed) empty (λ e. b .pre .1 (sym e))
-    (sym i ∙ c .before .if1 .taken) (b .pre .0) in
-    c .index-from2 .ensures ∙ sym next
+    let call = c .before .before .before in
+    c .index-from2 .ensures
+    ∙ lowest-next _ _ _ _ _ (call .before .before .pre .1) (call .index-from .ensures) (c .before .before .if1 .taken)
+    (c .before .if2 .taken)
 
 returns-2 : tie.Need-returns-2
 returns-2 c =
-    let b = c .before .before .before in
-    let i = c .before .index-from .ensures ∙ zero-add _ in
-    let same =
-    index-set-beside (b .args .name) (b .args .rows .now) (b .args .changed) empty (λ e. b .pre .1 (sym e))
-    (λ e. c .if1 .left (i ∙ e)) in
-    i ∙ sym same
+    let call = c .before .before in
+    lowest-past _ _ _ _ _ (call .before .before .pre .1) (call .index-from .ensures) (c .before .if1 .taken) (c .if2 .left)
+
+returns-3 : tie.Need-returns-3
+returns-3 c =
+    let call = c .before in
+    lowest-beside _ _ _ _ _ (call .before .before .pre .1) (call .index-from .ensures) (c .if1 .left)
 
 pub lowest-but-spec : {M : Type 1} → statement M
 lowest-but-spec =
-    tie.close (tie.spec index-from-requires add-index-from index-from-requires-2 returns returns-2)
+    tie.close (tie.spec index-from-requires add-index-from index-from-requires-2 returns returns-2 returns-3)

@@ -1,17 +1,22 @@
--- `seek::mark` meets its contract: a place that is no slot's, or is past the marks, marks nothing. Assumes nothing.
-use Prim.Native.Nat.{_-_}
-use mathlib.Core.Path.{sym}
-use lib.Seq.{set-out}
-use borrow.Author.Tests.{lt-ltb, le-ltb}
+-- `seek::mark` meets its contract: a name that is no slot's, or is of another bank, or is past the marks, marks nothing.
+-- Assumes nothing.
+use mathlib.Core.Path.{sym, _∙_}
 use borrow.Author.Needs.{needs}
+use Rattle.seek.proofs.Marks.{marked-home, marked-slot, marked-past, marked-away}
 use Rattle.seek.proofs.mark.Statement.{statement}
 use Rattle.seek.proofs.mark.Tie as tie
 
 returns : tie.Need-returns
-returns c = rw (lt-ltb _ _ (c .if1 .taken))
+returns c = marked-home _ _ _ _ _ (c .if1 .taken)
 
 cast-slot : tie.Need-cast-slot
 cast-slot c = search needs
+
+cast-t13 : tie.Need-cast-t13
+cast-t13 c = search needs
+
+bank-of-requires : tie.Need-bank-of-requires
+bank-of-requires c κs = search needs
 
 slice-write-marks : tie.Need-slice-write-marks
 slice-write-marks c = search needs
@@ -20,13 +25,18 @@ same-length : tie.Need-same-length
 same-length c = search needs
 
 returns-2 : tie.Need-returns-2
-returns-2 c = rw (le-ltb _ _ (c .before .if1 .left))
+returns-2 c =
+    let a = c .before .before .before .before .before .args in
+    marked-slot (a .s) (a .bank) (a .name) (a .is) (a .marks .now) (c .before .before .before .if1 .left)
+    (sym (c .before .bank-of .ensures) ∙ c .if3 .taken)
 
 returns-3 : tie.Need-returns-3
-returns-3 c =
-    let a = c .before .before .args in
-    rw (le-ltb _ _ (c .before .if1 .left)) (sym (set-out (a .marks .now) (a .name - a .first) (a .is) (c .if2 .left)))
+returns-3 c = marked-away _ _ _ _ _ (λ e. c .if3 .left (c .before .bank-of .ensures ∙ e))
+
+returns-4 : tie.Need-returns-4
+returns-4 c = marked-past _ _ _ _ _ (c .if2 .left)
 
 pub mark-spec : {M : Type 1} → statement M
 mark-spec =
-    tie.close (tie.spec returns cast-slot slice-write-marks same-length returns-2 returns-3)
+    tie.close
+    (tie.spec returns cast-slot cast-t13 bank-of-requires slice-write-marks same-length returns-2 returns-3 returns-4)

@@ -9,7 +9,8 @@ use Rattle.seek.proofs.skipped_by_scan.Statement.{statement}
 use Rattle.seek.proofs.skipped_by_scan.Tie as tie
 
 abbrev Inv-loop : tie.InvT-loop
-Inv-loop s entry changed from most rows counts slot₀ n₀ slot n = Turned (skipsBefore s (entry .0) changed rows counts) (s .q) most from slot n
+Inv-loop s entry changed from most rows counts slot₀ n₀ slot n =
+    Turned (skipsBefore s (entry .0) changed rows counts) (s .q) most from slot n
 
 abbrev μ-loop : tie.MeasureT-loop
 μ-loop s entry changed from most rows counts slot₀ n₀ slot n = most - n

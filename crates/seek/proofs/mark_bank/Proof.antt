@@ -1,0 +1,107 @@
+-- `seek::mark_bank` meets its contract. Invariant: the marks tell of the bank's entries from i on. Assumes nothing.
+use native.Mathlib.Omega.{arith}
+use borrow.Author.Needs.{needs}
+use Rattle.seek.proofs.OfBank.{rows-fit, counts-fit}
+use Rattle.seek.proofs.Marks.{Marking, marking-none, marking-leave, marking-more, marking-all}
+use Rattle.seek.proofs.mark_bank.Statement.{statement}
+use Rattle.seek.proofs.mark_bank.Tie as tie
+
+abbrev Inv-loop : tie.InvT-loop
+Inv-loop s bank changed rows counts marks₀ k from i₀ marks i = Marking s changed rows counts bank marks₀ marks i
+
+abbrev μ-loop : tie.MeasureT-loop
+μ-loop s bank changed rows counts marks₀ k from i₀ marks i = i
+
+cast-k : tie.Need-cast-k Inv-loop μ-loop
+cast-k c = search needs
+
+mul-from : tie.Need-mul-from Inv-loop μ-loop
+mul-from c =
+    let p = c .before .before .before .before .pre in
+    omega (arith, rows-fit (p .0) (p .1))
+
+add-i : tie.Need-add-i Inv-loop μ-loop
+add-i c =
+    let p = c .before .before .before .before .pre in
+    omega (arith, rows-fit (p .0) (p .1))
+
+loop-holds : tie.Need-loop-holds Inv-loop μ-loop
+loop-holds c =
+    let p = c .before .before .before .before .pre in
+    marking-none (p .0) (p .1) (p .3)
+
+sub-i : tie.Need-sub-i Inv-loop μ-loop
+sub-i c = omega arith
+
+mul-mark : tie.Need-mul-mark Inv-loop μ-loop
+mul-mark c =
+    let p = c .before .before .before .before .before .before .before .pre in
+    omega (arith, rows-fit (p .0) (p .1))
+
+shared-slice-read-mark : tie.Need-shared-slice-read-mark Inv-loop μ-loop
+shared-slice-read-mark c =
+    let p = c .before .before .before .before .before .before .before .before .pre in
+    omega (arith, rows-fit (p .0) (p .1))
+
+mul-mark-2 : tie.Need-mul-mark-2 Inv-loop μ-loop
+mul-mark-2 c =
+    let p = c .before .before .before .before .before .before .before .before .pre in
+    omega (arith, counts-fit (p .0) (p .1))
+
+shared-slice-read-mark-2 : tie.Need-shared-slice-read-mark-2 Inv-loop μ-loop
+shared-slice-read-mark-2 c =
+    let p = c .before .before .before .before .before .before .before .before .before .pre in
+    omega (arith, counts-fit (p .0) (p .1))
+
+mark-requires : tie.Need-mark-requires Inv-loop μ-loop
+mark-requires c κs = search needs
+
+loop-less : tie.Need-loop-less Inv-loop μ-loop
+loop-less c = omega arith
+
+loop-again : tie.Need-loop-again Inv-loop μ-loop
+loop-again c =
+    let turn = c .before .before .before .before .before .before .before in
+    let p = turn .before .before .before .before .before .before .before .pre in
+    rw (c .before .before .mark .ensures)
+    (marking-more (p .0) (p .1) _ (omega arith) (turn .before .loop-test .taken) (turn .before .before .loop .inv)
+    (turn .if1 .taken) (p .2))
+
+loop-less-2 : tie.Need-loop-less-2 Inv-loop μ-loop
+loop-less-2 c = omega arith
+
+loop-again-2 : tie.Need-loop-again-2 Inv-loop μ-loop
+loop-again-2 c =
+    let p = c .before .before .before .before .before .before .before .pre in
+    marking-leave (p .0) (p .1) _ (omega arith) (c .before .loop-test .taken) (c .before .before .loop .inv) (c .if1 .left)
+
+same-length : tie.Need-same-length Inv-loop μ-loop
+same-length c = c .before .loop .inv .long
+
+returns : tie.Need-returns Inv-loop μ-loop
+returns c =
+    let p = c .before .before .before .before .before .before .pre in
+    marking-all (p .0) (p .1) (c .before .loop .inv) (c .loop-test .left)
+
+pub mark-bank-spec : {M : Type 1} → statement M
+mark-bank-spec =
+    tie.close
+    (tie.spec
+    Inv-loop
+    μ-loop
+    cast-k
+    mul-from
+    add-i
+    loop-holds
+    sub-i
+    mul-mark
+    shared-slice-read-mark
+    mul-mark-2
+    shared-slice-read-mark-2
+    mark-requires
+    loop-less
+    loop-again
+    loop-less-2
+    loop-again-2
+    same-length
+    returns)

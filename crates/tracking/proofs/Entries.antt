@@ -1,0 +1,64 @@
+-- Step 2 told by its entry, found and then followed, is step 2. Assumes nothing.
+use Prim.Native.Nat.{ℕ, _<_, _≤_}
+use native.Mathlib.Omega.{arith}
+use mathlib.Core.Path.{_≡_, sym, ap, _∙_}
+use mathlib.Core.Logic.{inl, inr}
+use mathlib.Core.List.{List}
+use lib.Dec.{eqb, eqb·suc-zero}
+use lib.ListN.{length, getD, set, length-set}
+use lib.Seq.{set-getD}
+use borrow.Author.Tests.{lt-ltb, le-ltb}
+use Rattle.geometry.proofs.Cases.{split, lt?}
+use Rattle.scan.specs.Scan.{indexOf}
+use Rattle.scan.proofs.Scans.{lowest-le, index-found}
+use Rattle.tracking.specs.Track.{Tracked, track}
+use Rattle.tracking.specs.Entry.{entryOf, estimateAt, rowsAfter, countsAfter, spillAfter}
+
+-- what step 2 leaves, told by its entry and its estimate
+abbrev pub followed : ℕ → ℕ → ℕ → List ℕ → List ℕ → ℕ → Tracked
+followed i estimate p rows counts spill =
+    record {
+      rows = rowsAfter i estimate p rows;
+      counts = countsAfter i estimate counts;
+      spill = spillAfter estimate spill;
+      estimate = estimate;
+    }
+
+rows-after-long : (i estimate p : ℕ) (rows : List ℕ) → length (rowsAfter i estimate p rows) ≡ length rows
+unfolding rowsAfter
+rows-after-long i estimate p rows = elim (split (eqb estimate 0)) [ inl e ↦ rw e | inr e ↦ rw e (length-set rows i p) ]
+
+counts-after-long : (i estimate : ℕ) (counts : List ℕ) → length (countsAfter i estimate counts) ≡ length counts
+unfolding countsAfter
+counts-after-long i estimate counts = elim (split (eqb estimate 0)) [ inl e ↦ rw e | inr e ↦ rw e (length-set counts i estimate) ]
+
+module _ (p : ℕ) (rows counts : List ℕ) (spill : ℕ) (long : length rows ≡ length counts) where
+  pub follow-entry : followed (entryOf p rows counts spill) (estimateAt (entryOf p rows counts spill) (length counts) counts) p rows counts spill
+      ≡ track p rows counts spill
+  unfolding entryOf estimateAt rowsAfter countsAfter spillAfter track
+  follow-entry =
+      let i : ℕ = indexOf p rows in
+      let j : ℕ = indexOf spill counts in
+      elim (lt? i (length rows)) [
+        | inl h ↦
+            let inside : i < length counts = omega arith in
+            let same : set rows i p ≡ rows = ap (set rows i) (sym (index-found p rows 0 h)) ∙ set-getD rows i 0 in
+            rw (lt-ltb i (length rows) h, lt-ltb i (length counts) inside, eqb·suc-zero (getD counts i 0), same)
+        | inr h ↦ rw (le-ltb i (length rows) h) (elim (lt? j (length counts)) [
+          | inl k ↦ rw (lt-ltb j (length counts) k, eqb·suc-zero (getD counts j 0), index-found spill counts 0 k)
+          | inr k ↦ rw (le-ltb j (length counts) k)
+        ])
+      ]
+
+  -- the entry is one of them, or as many as there are
+  pub entry-most : entryOf p rows counts spill ≤ length counts
+  unfolding entryOf
+  entry-most =
+      let i : ℕ = indexOf p rows in
+      elim (lt? i (length rows)) [
+        | inl h ↦ rw (lt-ltb i (length rows) h) (omega arith)
+        | inr h ↦ rw (le-ltb i (length rows) h) (lowest-le (λ x. eqb x spill) counts)
+      ]
+
+  pub track-long : (length ((track p rows counts spill) .rows) ≡ length rows) × (length ((track p rows counts spill) .counts) ≡ length counts)
+  track-long = rw (← follow-entry) (rows-after-long _ _ p rows, counts-after-long _ _ counts)
