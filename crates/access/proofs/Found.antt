@@ -1,46 +1,55 @@
--- What the code found and decided before the bytes is what the steps say, and all that it needs to serve the access.
--- Assumes nothing.
-use Prim.Native.Nat.{ℕ, _+_, _*_, _<_, _≤_}
+-- What the code found before the bytes is what the steps say, and all that it needs to serve the access. Assumes nothing.
+use Prim.Native.Nat.{ℕ, _+_, _-_, _*_, _<_, _≤_}
+use native.Mathlib.Nat.{add-sub-of-le, mul-le-mul}
 use native.Mathlib.Omega.{arith}
 use mathlib.Core.Path.{_≡_, sym, ap, _∙_}
-use mathlib.Core.Logic.{inl, inr}
+use mathlib.Core.Logic.{inl, inr, _≢_}
 use mathlib.Core.Bool.{Bool, true, false}
 use mathlib.Core.List.{List}
-use lib.Dec.{ltb}
-use lib.ListN.{length}
+use lib.ListN.{length, getD}
 use borrow.Author.Tests.{eq-eqb, ne-eqb}
 use Rattle.geometry.specs.declared.Settings.{Settings}
-use Rattle.geometry.specs.declared.Slot.{Slot}
 use Rattle.geometry.specs.declared.ForwardEntry.{ForwardEntry}
-use Rattle.geometry.specs.declared.ReverseEntry.{ReverseEntry}
 use Rattle.geometry.specs.declared.PhysicalRow.{PhysicalRow}
 use Rattle.geometry.specs.Numbering.{physical}
 use Rattle.geometry.specs.Entry.{empty}
 use Rattle.conditions.proofs.Facts.{Ranges, Exact, ranges-facts, lengths-facts}
-use Rattle.tracking.specs.declared.Choice.{Choice}
-use Rattle.scan.specs.Scan.{some}
+use Rattle.banks.specs.Portions.{portion}
+use Rattle.banks.specs.Banks.{mostBanks, bankOf}
+use Rattle.banks.proofs.Portions.{portion-fits, length-portion, getD-portion}
+use Rattle.banks.proofs.Banks.{bank-in}
+use Rattle.scan.proofs.Loops.{counts-below}
 use Rattle.tracking.specs.Track.{isDue}
-use Rattle.tracking.specs.Choice.{choiceOf, estimateBy, entryBy}
-use Rattle.tracking.proofs.Choices.{estimate-choice, within-choice, within-choice-rows, entry-within}
+use Rattle.tracking.proofs.Due.{due-some}
+use Rattle.tracking.specs.Entry.{entryIn, estimateAt, rowsAfter, countsAfter, spillAfter}
+use Rattle.tracking.proofs.Banks.{entry-in-bank, estimate-in, spill-in, rows-in, counts-in}
 use Rattle.row_layout.proofs.Laws.{row-before}
-use Rattle.engine.specs.State.{State, ringOf, storageOf, lengthsOf, forwardOf, reverseOf}
-use Rattle.engine.specs.Steps.{placeBy, place, tracked, moves, skipped, destination, riseTo, rise}
+use Rattle.engine.specs.State.{State, Tracker, trackerAt, ringOf, storageOf, lengthsOf, forwardOf, reverseOf}
+use Rattle.engine.specs.Steps.{placeBy, place, tracked, counted, moves, skipped, destination, riseTo, rise}
 use Rattle.engine.specs.Ladder.{rowNumber, tickNumber, accessNumber}
 use Rattle.engine.proofs.Rungs.{pass}
 use Rattle.engine.proofs.Facts.{pointersHold, row-facts, Accepted, accepted, Steady, steady, row-sound, slot-sound, place-below, RowSound}
 use Rattle.engine.proofs.Moves.{destination-in, slide, rise-to, not-own}
 use Rattle.seek.specs.Seeking.{skippedBefore, Seekable}
 use Rattle.seek.proofs.Before.{skipped-before}
-use Rattle.verdict.specs.declared.Verdict.{Verdict}
-use Rattle.verdict.specs.declared.Verdict.the-variants.{Go}
-use Rattle.verdict.specs.Verdicts.{lateVerdict, judgementOf}
 use Rattle.ladder.proofs.Stages.{earlyNumber, Checked, checked}
-use Rattle.verdict.proofs.Judged.{late-over, late-is}
 use Rattle.settle.specs.Settling.{Movable}
-use Rattle.access.specs.Serving.{Countable}
-use Rattle.access.proofs.Verdicts.{go-tells}
 
--- ---- past 1 to 7: what the calls up to the verdict ask
+-- ---- what the code found, and what comes of it
+
+-- of an access that passed 1 to 7: place, bank, the bank's numbers, the entry of step 2 and the estimate, as the code has them
+pub record Seen (S : Settings) (σ : State) (r : ℕ) (p : PhysicalRow) (bank spill acts i estimate : ℕ) : Type 0 where
+  pub placed : p ≡ physical (place S σ r)
+  pub bank-small : bank < mostBanks
+  pub bank-is : bank ≡ bankOf S (place S σ r)
+  pub acts-are : acts ≡ trackerAt S σ (place S σ r) .acts
+  pub estimate-is : estimate ≡ (tracked S σ r) .estimate
+  -- what following step 2 leaves
+  pub spill-then : spillAfter estimate spill ≡ (tracked S σ r) .spill
+  pub rows-then : rowsAfter i estimate (p .0) (σ .rows) ≡ (counted S σ r) .rows
+  pub counts-then : countsAfter i estimate (σ .counts) ≡ (counted S σ r) .counts
+
+-- ---- past 1 to 7: what the calls after them ask
 
 pub record Early (S : Settings) (σ : State) (r : ℕ) (off : Bool) : Type 0 where
   pub is-0 : earlyNumber S σ r off ≡ 0
@@ -58,92 +67,169 @@ module _ {S : Settings} {σ : State} {r : ℕ} {off : Bool} (E : Early S σ r of
   pub row-small : r < 60000
   row-small = omega (arith, row-holds .0, fits .ranges .n-high)
 
-  same-long : length (σ .rows) ≡ length (σ .counts)
-  same-long = fits .lengths .rows ∙ sym (fits .lengths .counts)
+  abbrev home : ℕ
+  home = bankOf S (place S σ r)
+
+  home-in : home < S .b
+  home-in = bank-in S (place S σ r) (fits .ranges .b-low)
+
+  place-small : place S σ r < 65536
+  place-small = omega (arith, place-below S σ r (fits .ranges) (row-holds .0) (row-holds .2), fits .ranges .n-high, fits .ranges .q-high)
+
+  rows-room : home * S .k + S .k ≤ length (σ .rows)
+  rows-room = portion-fits (S .k) (S .b) home (length (σ .rows)) (fits .lengths .rows) home-in
+
+  counts-room : home * S .k + S .k ≤ length (σ .counts)
+  counts-room = portion-fits (S .k) (S .b) home (length (σ .counts)) (fits .lengths .counts) home-in
 
   -- e and p: the row's forward entry and place, as the code has them
   module _ {e : ForwardEntry} (entered : e .0 ≡ forwardOf σ r) {p : PhysicalRow} (placed : p ≡ physical (placeBy S (e .0) r)) where
-    place-is : p ≡ physical (place S σ r)
+    pub place-is : p ≡ physical (place S σ r)
     place-is = placed ∙ ap (λ (x : ℕ). physical (placeBy S x r)) entered
 
-    pub choosable : (p .0 < 65536) × (length (σ .rows) ≡ length (σ .counts)) × (some (λ count. ltb 4294967294 count) (σ .counts) ≡ false) × (σ .control .spill < 4294967295)
-    choosable = (
-      rw place-is (omega (arith, place-below S σ r (fits .ranges) (row-holds .0) (row-holds .2), fits .ranges .n-high, fits .ranges .q-high)),
-      same-long,
-      fits .counts,
-      omega (arith, fits .steady .spill-in, fits .steady .acts-in, fits .ranges .l-high),
-    )
+    pub bankable : (1 ≤ S .b) × (p .0 < 65536)
+    bankable = (fits .ranges .b-low, rw place-is place-small)
 
-    -- way: the way that step 2 goes, as the code has it
-    module _ {way : Choice} (chosen : way ≡ choiceOf (p .0) (σ .rows) (σ .counts) (σ .control .spill)) where
-      way-is : way ≡ choiceOf (place S σ r) (σ .rows) (σ .counts) (σ .control .spill)
-      way-is = chosen ∙ ap (λ (x : PhysicalRow). choiceOf (x .0) (σ .rows) (σ .counts) (σ .control .spill)) place-is
+    -- bank: that of the place
+    module _ {bank : ℕ} (banked : bank ≡ bankOf S (p .0)) where
+      pub bank-is : bank ≡ home
+      bank-is = banked ∙ ap (λ (x : PhysicalRow). bankOf S (x .0)) place-is
 
-      estimate-is : estimateBy way ≡ tracked S σ r .estimate
-      estimate-is = ap estimateBy way-is ∙ estimate-choice (place S σ r) (σ .rows) (σ .counts) (σ .control .spill)
+      pub bank-small : bank < mostBanks
+      bank-small = omega (arith, bank-is, home-in, fits .ranges .b-high)
 
-      entry-in : entryBy way < length (σ .rows)
-      entry-in =
-          rw way-is
-          (entry-within (length (σ .rows)) (choiceOf (place S σ r) (σ .rows) (σ .counts) (σ .control .spill))
-          (omega (arith, fits .lengths .rows, fits .ranges .k-low))
-          (within-choice-rows (place S σ r) (σ .rows) (σ .counts) (σ .control .spill) same-long))
+      pub findable : (p .0 < 65536) × (bank * S .k + S .k ≤ length (σ .rows)) × (bank * S .k + S .k ≤ length (σ .counts))
+      findable = (bankable .1, rw bank-is rows-room, rw bank-is counts-room)
 
-      pub decidable : (1 ≤ S .a) × Seekable S (entryBy way) (σ .rows) (σ .counts) × (length (σ .forward) ≡ S .n) × (length (σ .reverse) ≡ S .q)
-          × (σ .control .head < S .q) × (σ .control .passed ≤ S .q)
-      decidable = (
-        fits .ranges .a-low,
-        record {
-          slots-few = fits .ranges .q-high;
-          rows-few = fits .ranges .n-high;
-          same-long = same-long;
-          within = entry-in;
-        },
-        fits .lengths .forward,
-        fits .lengths .reverse,
-        fits .steady .head-in,
-        fits .steady .passed-in,
-      )
+      -- where the bank's entries end
+      pub end-small : bank * S .k + S .k ≤ 69632
+      end-small = omega (arith, mul-le-mul (let few : bank ≤ 16 = omega (arith, bank-small) in few) (fits .ranges .k-high), fits .ranges .k-high)
 
-      -- the slots that the head skips, as the code finds them
-      over-is : isDue (S .a) (estimateBy way) ≡ true
-          → skippedBefore S (σ .control .head) (e .0) (entryBy way) (σ .rows) (σ .counts) ≡ skipped S σ r
-      over-is due =
-          rw (entered, way-is)
-          (skipped-before S σ r (row-holds .0) (fits .ranges .n-high) (fits .ranges .q-high) same-long (rw estimate-is at due) (fits .steady .head-in))
+      -- spill, acts: the bank's numbers
+      module _ {spill acts : ℕ} (spilled : spill ≡ getD (σ .control .spill) bank 0) (acted : acts ≡ getD (σ .control .acts) bank 0) where
+        abbrev t : Tracker
+        t = trackerAt S σ (place S σ r)
 
--- ---- the verdict
+        pub spill-is : spill ≡ t .spill
+        spill-is = spilled ∙ ap (λ (c : ℕ). getD (σ .control .spill) c 0) bank-is
 
--- what the code found: the row's forward entry, its place, the tracker's way and the verdict
-pub record Found (S : Settings) (σ : State) (r : ℕ) (off : Bool) (e : ForwardEntry) (p : PhysicalRow) (way : Choice) (v : Verdict) : Type 0 where
+        pub acts-are : acts ≡ t .acts
+        acts-are = acted ∙ ap (λ (c : ℕ). getD (σ .control .acts) c 0) bank-is
+
+        pub numbers-small : (spill < 65536) × (acts ≤ 1360000)
+        numbers-small =
+            let w = fits .steady .banks home home-in in
+            (omega (arith, spill-is, w .spill-below, fits .ranges .a-high), omega (arith, acts-are, w .acts-in, fits .ranges .l-high))
+
+        -- i: the entry that step 2 changes
+        module _ {i : ℕ} (found : i ≡ entryIn (S .k) bank (p .0) (σ .rows) (σ .counts) spill) where
+          pub entry-is : i ≡ entryIn (S .k) home (place S σ r) (σ .rows) (σ .counts) (t .spill)
+          entry-is =
+              found ∙ ap (λ (x : PhysicalRow). entryIn (S .k) bank (x .0) (σ .rows) (σ .counts) spill) place-is
+              ∙ ap (λ (c : ℕ). entryIn (S .k) c (place S σ r) (σ .rows) (σ .counts) spill) bank-is
+              ∙ ap (entryIn (S .k) home (place S σ r) (σ .rows) (σ .counts)) spill-is
+
+          entry-low : home * S .k ≤ i
+          unfolding entryIn
+          entry-low = omega (arith, entry-is)
+
+          -- a count of the bank can rise by 1
+          count-fits : i < home * S .k + S .k → getD (σ .counts) i 0 < 4294967295
+          count-fits high =
+              let j : ℕ = i - home * S .k in
+              let at : home * S .k + j ≡ i = add-sub-of-le entry-low in
+              let inside : j < S .k = omega arith in
+              let low : getD (portion (S .k) home (σ .counts)) j 0 ≤ 4294967294 =
+              counts-below (portion (S .k) home (σ .counts)) 4294967294 j (fits .counts home home-in) (omega (arith, length-portion (S .k) home (σ .counts) counts-room)) in
+              let same : getD (portion (S .k) home (σ .counts)) j 0 ≡ getD (σ .counts) i 0 =
+              getD-portion (S .k) home (σ .counts) counts-room j 0 inside ∙ ap (λ (x : ℕ). getD (σ .counts) x 0) at in
+              omega (arith, low, same)
+
+          pub estimable : (bank * S .k + S .k ≤ length (σ .counts)) × (i < bank * S .k + S .k → getD (σ .counts) i 0 < 4294967295)
+          estimable = (rw bank-is counts-room, λ h. count-fits (rw bank-is at h))
+
+          -- estimate: that of the access
+          module _ {estimate : ℕ} (estimated : estimate ≡ estimateAt i (bank * S .k + S .k) (σ .counts)) where
+            estimate-told : estimate ≡ estimateAt (entryIn (S .k) home (place S σ r) (σ .rows) (σ .counts) (t .spill)) (home * S .k + S .k) (σ .counts)
+            estimate-told =
+                estimated ∙ ap (λ (c : ℕ). estimateAt i (c * S .k + S .k) (σ .counts)) bank-is
+                ∙ ap (λ (x : ℕ). estimateAt x (home * S .k + S .k) (σ .counts)) entry-is
+
+            pub estimate-is : estimate ≡ (tracked S σ r) .estimate
+            estimate-is = estimate-told ∙ estimate-in (S .k) home (σ .rows) (σ .counts) rows-room counts-room (place S σ r) (t .spill)
+
+            pub due-is : isDue (S .a) estimate ≡ moves S σ r
+            due-is = ap (isDue (S .a)) estimate-is
+
+            entry-inside : estimate ≢ 0 → i < home * S .k + S .k
+            entry-inside n =
+                rw entry-is
+                (entry-in-bank (S .k) home (σ .rows) (σ .counts) rows-room counts-room (place S σ r) (t .spill) (λ z. n (estimate-told ∙ z)))
+
+            pub followable : (p .0 < 65536) × (estimate ≢ 0 → i < length (σ .rows)) × (estimate ≢ 0 → i < length (σ .counts))
+            followable = (bankable .1, λ n. omega (arith, entry-inside n, rows-room), λ n. omega (arith, entry-inside n, counts-room))
+
+            pub seen : Seen S σ r p bank spill acts i estimate
+            seen =
+                let e′ : ℕ = entryIn (S .k) home (place S σ r) (σ .rows) (σ .counts) (t .spill) in
+                record {
+                  placed = place-is;
+                  bank-small = bank-small;
+                  bank-is = bank-is;
+                  acts-are = acts-are;
+                  estimate-is = estimate-is;
+                  spill-then = rw (spill-is, estimate-told) (spill-in (S .k) home (σ .rows) (σ .counts) rows-room counts-room (place S σ r) (t .spill));
+                  rows-then =
+                      ap (λ (x : PhysicalRow). rowsAfter i estimate (x .0) (σ .rows)) place-is
+                      ∙ ap (λ (x : ℕ). rowsAfter x estimate (place S σ r) (σ .rows)) entry-is
+                      ∙ ap (λ (x : ℕ). rowsAfter e′ x (place S σ r) (σ .rows)) estimate-told
+                      ∙ rows-in (S .k) home (σ .rows) (σ .counts) rows-room counts-room (place S σ r) (t .spill);
+                  counts-then =
+                      ap (λ (x : ℕ). countsAfter x estimate (σ .counts)) entry-is
+                      ∙ ap (λ (x : ℕ). countsAfter e′ x (σ .counts)) estimate-told
+                      ∙ counts-in (S .k) home (σ .rows) (σ .counts) rows-room counts-room (place S σ r) (t .spill);
+                }
+
+            -- the row is to be moved
+            module _ (due : isDue (S .a) estimate ≡ true) where
+              pub seekable : Seekable S i (σ .rows) (σ .counts) × (length (σ .forward) ≡ S .n) × (length (σ .reverse) ≡ S .q)
+                  × (σ .control .head < S .q) × (σ .control .passed ≤ S .q)
+              seekable = (
+                record {
+                  slots-few = fits .ranges .q-high;
+                  rows-few = fits .ranges .n-high;
+                  some-bank = fits .ranges .b-low;
+                  rows-long = fits .lengths .rows;
+                  counts-long = fits .lengths .counts;
+                  within = followable .1 (due-some (S .a) estimate due);
+                },
+                fits .lengths .forward,
+                fits .lengths .reverse,
+                fits .steady .head-in,
+                fits .steady .passed-in,
+              )
+
+              pub over-is : skippedBefore S (σ .control .head) (e .0) i (σ .rows) (σ .counts) ≡ skipped S σ r
+              over-is =
+                  rw (entered, entry-is)
+                  (skipped-before S σ r (fits .ranges .b-low) (fits .lengths .rows) (fits .lengths .counts) (row-holds .0)
+                  (fits .ranges .n-high) (fits .ranges .q-high) (sym due-is ∙ due) (fits .steady .head-in))
+
+  -- what `is_due` asks
+  pub threshold-some : 1 ≤ S .a
+  threshold-some = fits .ranges .a-low
+
+-- ---- an access that is accepted: what the calls after it is decided ask
+
+-- e and p: the row's forward entry and place, as the code has them
+pub record Taken (S : Settings) (σ : State) (r : ℕ) (off : Bool) (e : ForwardEntry) (p : PhysicalRow) : Type 0 where
+  pub number-0 : accessNumber S σ r off ≡ 0
   pub entered : e .0 ≡ forwardOf σ r
   pub placed : p ≡ physical (place S σ r)
-  pub chosen : way ≡ choiceOf (place S σ r) (σ .rows) (σ .counts) (σ .control .spill)
-  pub decided : v ≡ judgementOf S σ r off
 
-pub found : {S : Settings} {σ : State} {r : ℕ} {off : Bool} {e : ForwardEntry} {p : PhysicalRow} {way : Choice} {v : Verdict}
-    → Early S σ r off → e .0 ≡ forwardOf σ r → p ≡ physical (placeBy S (e .0) r)
-    → way ≡ choiceOf (p .0) (σ .rows) (σ .counts) (σ .control .spill)
-    → v ≡ lateVerdict S (ringOf (σ .control)) (σ .control .acts) (σ .forward) (σ .reverse)
-    (skippedBefore S (σ .control .head) (e .0) (entryBy way) (σ .rows) (σ .counts)) (isDue (S .a) (estimateBy way))
-    → Found S σ r off e p way v
-found {S} {σ} {r} {off} {e} {p} {way} early entered placed chosen decided =
-    record {
-      entered = entered;
-      placed = place-is early entered placed;
-      chosen = way-is early entered placed chosen;
-      decided = decided
-          ∙ late-over S (ringOf (σ .control)) (σ .control .acts) (σ .forward) (σ .reverse) _ (skipped S σ r) (isDue (S .a) (estimateBy way)) (over-is early entered placed chosen)
-          ∙ ap (λ (x : ℕ). lateVerdict S (ringOf (σ .control)) (σ .control .acts) (σ .forward) (σ .reverse) (skipped S σ r) (isDue (S .a) x)) (estimate-is early entered placed chosen)
-          ∙ late-is S σ r off (early .is-0);
-    }
-
--- ---- an access that is accepted: what the calls after the verdict ask
-
-module _ {S : Settings} {σ : State} {r : ℕ} {off : Bool} {e : ForwardEntry} {p : PhysicalRow} {way : Choice} {v : Verdict} (F : Found S σ r off e p way v)
-    (number-0 : accessNumber S σ r off ≡ 0) where
+module _ {S : Settings} {σ : State} {r : ℕ} {off : Bool} {e : ForwardEntry} {p : PhysicalRow} (T : Taken S σ r off e p) where
   A : Accepted S σ r off
-  A = accepted S σ r off number-0
+  A = accepted S σ r off (T .number-0)
 
   R : Ranges S
   R = ranges-facts S (A .reached .fit .ranges)
@@ -160,11 +246,14 @@ module _ {S : Settings} {σ : State} {r : ℕ} {off : Bool} {e : ForwardEntry} {
   pub span-in : off ≡ false
   span-in = A .reached .span-in
 
+  pub acts-below : trackerAt S σ (place S σ r) .acts < 1360000
+  acts-below = omega (arith, A .reached .more, R .l-high)
+
   in-place : place S σ r < S .n + S .q
   in-place = place-below S σ r R (A .reached .row-in) (A .reached .pointers)
 
   pub place-in : p .0 < S .n + S .q
-  place-in = rw (F .placed) in-place
+  place-in = rw (T .placed) in-place
 
   pub store-long : length (σ .store) ≡ (S .n + S .q) * S .w
   store-long = X .store
@@ -173,16 +262,6 @@ module _ {S : Settings} {σ : State} {r : ℕ} {off : Bool} {e : ForwardEntry} {
   pub place-inside : p .0 * S .w + S .w ≤ length (σ .store)
   place-inside = omega (arith, row-before (S .w) (p .0) (S .n + S .q) place-in, X .store)
 
-  pub countable : Countable (σ .control .acts) (p .0) way (σ .rows) (σ .counts)
-  countable =
-      let same : length (σ .rows) ≡ length (σ .counts) = X .rows ∙ sym (X .counts) in
-      record {
-        acts-fit = omega (arith, A .reached .more, R .l-high);
-        place-fits = omega (arith, place-in, R .n-high, R .q-high);
-        rows-in = rw (F .chosen) (within-choice-rows (place S σ r) (σ .rows) (σ .counts) (σ .control .spill) same);
-        counts-in = rw (F .chosen) (within-choice (place S σ r) (σ .rows) (σ .counts) (σ .control .spill) same);
-      }
-
   away : forwardOf σ r ≡ empty → place S σ r < S .n
   away at = rw (eq-eqb (forwardOf σ r) empty at) (A .reached .row-in)
 
@@ -190,15 +269,12 @@ module _ {S : Settings} {σ : State} {r : ℕ} {off : Bool} {e : ForwardEntry} {
   in-slot at = rw (ne-eqb (forwardOf σ r) empty (λ z. omega (arith, R .q-high)))
 
   -- the move to slot d is ready; store: with the bytes in the row's place
-  pub movable : {d : Slot} {held : ReverseEntry} {up : ℕ} → Go d held up ≡ judgementOf S σ r off → (store : List ℕ) → length store ≡ length (σ .store)
-      → Movable S r (e .0) (p .0) (d .0) (held .0) up (storageOf store (σ .forward) (σ .reverse) (ringOf (σ .control)))
-  movable {d} {held} {up} goes store long =
-      let t = go-tells (accessNumber S σ r off) (moves S σ r) (destination S σ r) (reverseOf σ (destination S σ r)) (rise S σ r) goes in
-      let to : d .0 ≡ destination S σ r = t .2 in
-      let was : held .0 ≡ reverseOf σ (destination S σ r) = t .3 in
-      let rises : up ≡ rise S σ r = t .4 in
-      let at : p .0 ≡ place S σ r = ap (λ (x : PhysicalRow). x .0) (F .placed) in
-      let room : σ .control .passed + rise S σ r ≤ S .q = A .room (t .1) in
+  pub movable : moves S σ r ≡ true → {d held up : ℕ} → d ≡ destination S σ r → held ≡ reverseOf σ (destination S σ r) → up ≡ rise S σ r
+      → (store : List ℕ) → length store ≡ length (σ .store)
+      → Movable S r (e .0) (p .0) d held up (storageOf store (σ .forward) (σ .reverse) (ringOf (σ .control)))
+  movable due {d} {held} {up} to was rises store long =
+      let at : p .0 ≡ place S σ r = ap (λ (x : PhysicalRow). x .0) (T .placed) in
+      let room : σ .control .passed + rise S σ r ≤ S .q = A .room due in
       let free : destination S σ r ≡ forwardOf σ r → ⊥ = not-own S σ r (destination S σ r) (slide S σ r (K .head-in) room .free) in
       record {
         sendable = record {
@@ -206,12 +282,12 @@ module _ {S : Settings} {σ : State} {r : ℕ} {off : Bool} {e : ForwardEntry} {
           store-long = long ∙ X .store;
           forward-long = X .forward;
           slot-in = rw to (destination-in S σ r (K .head-in));
-          held-in = elim (slot-sound S σ (destination S σ r) (A .target (t .1))) [ inl z ↦ inl (was ∙ z) | inr c ↦ inr (rw was (c .0)) ];
+          held-in = elim (slot-sound S σ (destination S σ r) (A .target due)) [ inl z ↦ inl (was ∙ z) | inr c ↦ inr (rw was (c .0)) ];
         };
         reverse-long = X .reverse;
         row-in = A .reached .row-in;
-        entry-is = F .entered;
-        entry-in = elim pointers [ inl z ↦ inl (F .entered ∙ z) | inr c ↦ inr (rw (F .entered) (c .0)) ];
+        entry-is = T .entered;
+        entry-in = elim pointers [ inl z ↦ inl (T .entered ∙ z) | inr c ↦ inr (rw (T .entered) (c .0)) ];
         place-in = place-in;
         apart = λ z. elim pointers [
           | inl a ↦ omega (arith, away a, at)

@@ -130,12 +130,12 @@ pub fn read(
     let all_acts = control.acts;
     let spill = banks::number_of(all_spill, bank);
     let acts = banks::number_of(all_acts, bank);
-    let k = s.k as usize;
-    let i = tracker::find(place, k, bank, rows, counts, spill);
-    let estimate = tracker::estimate(i, bank * k + k, counts);
     if acts == s.l {
         return refused(control, engine::EPOCH);
     }
+    let k = s.k as usize;
+    let i = tracker::find(place, k, bank, rows, counts, spill);
+    let estimate = tracker::estimate(i, bank * k + k, counts);
     if verdict::is_due(s, estimate) {
         let v = verdict::quarantine(s, ring, entry, i, forward, reverse, rows, counts);
         let last = v.number;
@@ -220,12 +220,12 @@ pub fn write(
     let all_acts = control.acts;
     let spill = banks::number_of(all_spill, bank);
     let acts = banks::number_of(all_acts, bank);
-    let k = s.k as usize;
-    let i = tracker::find(place, k, bank, rows, counts, spill);
-    let estimate = tracker::estimate(i, bank * k + k, counts);
     if acts == s.l {
         return refused(control, engine::EPOCH);
     }
+    let k = s.k as usize;
+    let i = tracker::find(place, k, bank, rows, counts, spill);
+    let estimate = tracker::estimate(i, bank * k + k, counts);
     if verdict::is_due(s, estimate) {
         let v = verdict::quarantine(s, ring, entry, i, forward, reverse, rows, counts);
         let last = v.number;

@@ -1,8 +1,12 @@
--- An access in numbers is the access. Assumes nothing.
-use mathlib.Core.Path.{_≡_, ap, _∙_}
-use mathlib.Core.List.{List}
+-- An access in numbers is the access; its numbers, case by case. Assumes nothing.
 use Prim.Native.Nat.{ℕ}
+use mathlib.Core.Path.{_≡_, refl, ap, _∙_}
+use mathlib.Core.List.{List}
+use Rattle.geometry.specs.Numbering.{slot, physical, visible}
+use Rattle.geometry.specs.Entry.{empty}
 use Rattle.engine.specs.declared.Access.{Access}
+use Rattle.engine.specs.declared.Access.the-variants.{Refused, Done}
+use Rattle.engine.specs.declared.Move.the-variants.{Stayed, ToSlot, OverSlot}
 use Rattle.engine.specs.State.{State}
 use Rattle.engine.specs.Calls.{Accessed, accessedOf}
 use Rattle.figures.specs.declared.Outcome.{Outcome}
@@ -13,3 +17,16 @@ pub in-numbers : {a : Accessed} {after : State} {answer : Access} {filled : List
     → AccessPromise a after outcome filled
 in-numbers e o =
     (ap (λ (x : Accessed). x .state) e, o ∙ ap (λ (x : Accessed). outcomeOf (x .answer)) e, ap (λ (x : Accessed). x .buffer) e)
+
+pub refused-outcome : (number : ℕ) → outcomeOf (Refused number) ≡ record { number = number; slot = empty; row = empty; estimate = 0; place = 0 }
+refused-outcome number = refl
+
+module _ (p e : ℕ) where
+  pub stayed-outcome : outcomeOf (Done (physical p) e Stayed) ≡ record { number = 0; slot = empty; row = empty; estimate = e; place = p }
+  stayed-outcome = refl
+
+  pub filled-outcome : (d : ℕ) → outcomeOf (Done (physical p) e (ToSlot (slot d))) ≡ record { number = 0; slot = d; row = empty; estimate = e; place = p }
+  filled-outcome d = refl
+
+  pub evicted-outcome : (d v : ℕ) → outcomeOf (Done (physical p) e (OverSlot (slot d) (visible v))) ≡ record { number = 0; slot = d; row = v; estimate = e; place = p }
+  evicted-outcome d v = refl

@@ -1,11 +1,8 @@
 // The engine's answers in numbers, for callers that cannot take an enum or a slice: what the C functions answer.
 ghost use mathlib.Core.Path.{_≡_};
 ghost use Rattle.engine.specs.State.{stateOf};
-ghost use Rattle.figures.specs.Outcome.{outcomeOf};
 ghost use Rattle.figures.specs.Promises.{InspectSpanPromise};
 ghost use Rattle.figures.specs.Sum.{sumOf};
-use engine::Access;
-use engine::Move;
 use geometry::Control;
 use geometry::Settings;
 use sizing::Figure;
@@ -23,48 +20,6 @@ pub struct Outcome {
     pub estimate: u32,
     // the place that the row had, 0 in a refusal
     pub place: u64,
-}
-
-// Returns the numbers of an answer.
-pub fn numbers_of(answer: Access) -> Outcome
-    ensures { λ r. ⌜ r ≡ outcomeOf answer ⌝ }
-{
-    match answer {
-        Access::Refused(number) => Outcome {
-            number: number,
-            slot: 65535,
-            row: 65535,
-            estimate: 0,
-            place: 0,
-        },
-        Access::Done {
-            place,
-            estimate,
-            moved,
-        } => match moved {
-            Move::Stayed => Outcome {
-                number: 0,
-                slot: 65535,
-                row: 65535,
-                estimate: estimate,
-                place: place.0,
-            },
-            Move::ToSlot(d) => Outcome {
-                number: 0,
-                slot: d.0 as u32,
-                row: 65535,
-                estimate: estimate,
-                place: place.0,
-            },
-            Move::OverSlot(d, v) => Outcome {
-                number: 0,
-                slot: d.0 as u32,
-                row: v.0 as u32,
-                estimate: estimate,
-                place: place.0,
-            },
-        },
-    }
 }
 
 // Where inspect's part lies in the store, for callers that cannot take a slice.

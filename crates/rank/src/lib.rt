@@ -1,8 +1,8 @@
 // The face of the engine: thin entry functions over a control record that the caller lends, exported to C (see
 // include/aqua.h). They answer for any settings, arguments and lent memory; a refusal leaves everything as it was.
 // What each promises is one definition of crate `figures` (specs/Promises.antt); the theorem about them (crate `served`)
-// supposes these and nothing else. Rattle code may hold the record by value and call the crates `upkeep`, `look` and
-// `access` instead.
+// supposes these and nothing else. Rattle code may hold the record by value and call `read_core` and `write_core`, and the
+// crates `upkeep` and `look`, instead.
 ghost use mathlib.Core.Path.{_≡_};
 ghost use Rattle.sizing.specs.declared.SizeTimes.{SizeTimes as SizeTimes-of};
 ghost use Rattle.sizing.specs.declared.RefreshTimes.{RefreshTimes as RefreshTimes-of};
@@ -26,7 +26,8 @@ pub struct Reported {
     pub control: Control,
 }
 
-// Reads a row, with the control record by value.
+// Reads a row, with the control record by value. What the access changes of the record is stored in a copy, the first
+// bank's numbers at an index that the compiler knows: with one bank that is all that is paid for the others.
 pub fn read_core(
     control: Control,
     s: Settings,
@@ -45,8 +46,9 @@ pub fn read_core(
         (now (rows .exit)) (now (counts .exit)) (r .control) in
         ⌜ ReadPromise s before row (now (buffer .entry)) after (r .outcome) (now (buffer .exit)) ⌝ }
 {
+    let mut next = control;
     let t = access::read(
-        control,
+        next,
         s,
         row,
         buffer,
@@ -56,15 +58,27 @@ pub fn read_core(
         rows,
         counts,
     );
-    let ring = t.ring;
     let outcome = t.outcome;
+    next.head = t.ring.head;
+    next.passed = t.ring.passed;
+    if t.bank == 0 {
+        next.spill[0] = t.spill;
+        next.acts[0] = t.acts;
+    } else {
+        let spill = next.spill;
+        let acts = next.acts;
+        let all_spill = banks::with_number(spill, t.bank, t.spill);
+        let all_acts = banks::with_number(acts, t.bank, t.acts);
+        next.spill = all_spill;
+        next.acts = all_acts;
+    }
     Reported {
         outcome: outcome,
-        control: banks::with_numbers(control, ring, t.bank, t.spill, t.acts),
+        control: next,
     }
 }
 
-// Writes into a row, with the control record by value.
+// Writes into a row, with the control record by value, which is dealt with as in `read_core`.
 pub fn write_core(
     control: Control,
     s: Settings,
@@ -84,8 +98,9 @@ pub fn write_core(
         (now (rows .exit)) (now (counts .exit)) (r .control) in
         ⌜ WritePromise s before row column (now (bytes .entry)) after (r .outcome) ⌝ }
 {
+    let mut next = control;
     let t = access::write(
-        control,
+        next,
         s,
         row,
         column,
@@ -96,11 +111,23 @@ pub fn write_core(
         rows,
         counts,
     );
-    let ring = t.ring;
     let outcome = t.outcome;
+    next.head = t.ring.head;
+    next.passed = t.ring.passed;
+    if t.bank == 0 {
+        next.spill[0] = t.spill;
+        next.acts[0] = t.acts;
+    } else {
+        let spill = next.spill;
+        let acts = next.acts;
+        let all_spill = banks::with_number(spill, t.bank, t.spill);
+        let all_acts = banks::with_number(acts, t.bank, t.acts);
+        next.spill = all_spill;
+        next.acts = all_acts;
+    }
     Reported {
         outcome: outcome,
-        control: banks::with_numbers(control, ring, t.bank, t.spill, t.acts),
+        control: next,
     }
 }
 

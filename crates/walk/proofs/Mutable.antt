@@ -31,7 +31,7 @@ use denote.Struct.Laws as LL
 use Rattle.walk.proofs.Locals.{typesOf, localAt, type-at, Contents, first, content, put, content-put}
 use Rattle.walk.proofs.Locals.{content-other, takes}
 use Rattle.walk.proofs.Cells.{sets, the-field, behind, field-of}
-use Rattle.walk.proofs.Spelled.{Spelled, struct, spelled-wt}
+use Rattle.walk.proofs.Spelled.{Spelled, struct, spelled-fits}
 use Rattle.walk.proofs.Frame.{ends}
 use Rattle.walk.proofs.Parameters.{Param}
 use Rattle.walk.proofs.Form.{Record, Form, at-call}
@@ -113,20 +113,23 @@ module _ {M : Type 1} (𝓤 : URA M) (H : Heap 𝓤) (A : Atoms 𝓤) (W : Given
       let o : ℕ = x .ptr .1 in
       let called : Contents = at-call F z in
       let type : localAt E (F .answer) .0 ≡ layout (shape (An .Y)) = type-at E (F .answer) ∙ ok .type in
-      opened T (x .now) b o ! tt (λ was. move ! (7 ∷ 0 ∷ []) $
+      opened T (x .now) b o ! tt (λ was. let good = spelled-fits 𝓤 H A W (struct (T .X) (T .laws)) (x .now) was in
+      move ! (7 ∷ 0 ∷ []) $
       -- [the locals; the record's cell; what it owns; the open borrow; its value, twice; the tokens; the others]
-      to-call W C Λ E ok z (spelled-wt 𝓤 H A W (struct (T .X) (T .laws)) (x .now) was) $ move ! (6 ∷ 2 ∷ 7 ∷ []) $
-      over-call W C Λ E ok z kept Ensures fm core known (qs .1) (λ d ws is.
+      to-call W C Λ E ok z good $ move ! (6 ∷ 2 ∷ 7 ∷ []) $
+      over-call W C Λ E ok z kept Ensures fm core known (qs .1) good (λ d ws is.
       let v : Val = LL.val (An .Y) (An .laws) d in
       let vs : Vals = parts (An .Y) (An .laws) d in
       let h : T .X .D = An .to d in
       let r : Val = An .spelled .val (An .gives d) in
       let cs : Contents = put (F .answer) v called in
-      let fits : T′ (takes (F .answer) (typesOf E) v) = ok .answer (κs .1) d in
+      let fits : T′ (takes (F .answer) (typesOf E) v) = ok .answer (κs .1) d (spelled-fits 𝓤 H A W (F .answers (κs .1)) d is .0) in
       let has : content (F .answer) cs ≡ some v = content-put (F .answer) v called in
       let points = content-other 1 (F .answer) v called tt ∙ ap first (ok .sent z) in
       let is-h : Is (row (T .X)) h (LL.vals (T .X) (T .laws) h) = An .to-is d (v ∷ []) is in
       let is-r : Is (An .R) (An .gives d) (r ∷ []) = An .gives-is d (v ∷ []) is in
+      let fits-r = spelled-fits 𝓤 H A W (An .spelled) (An .gives d) is-r in
+      let takes-r : T′ (takes 0 (typesOf E) r) = ok .result (κs .1) (An .gives d) (fits-r .0) in
       -- [the locals; the record's cell; what the answer owns; the tokens; the last values; what is ensured; the borrow]
       move ! (0 ∷ 5 ∷ []) $
       assigns ! (field-of E ! (F .answer) (An .to-field) vs cs type (An .to-lies) fits has (An .to-val d))
@@ -134,9 +137,9 @@ module _ {M : Type 1} (𝓤 : URA M) (H : Heap 𝓤) (A : Atoms 𝓤) (W : Given
       (store-raw ! 1 refl (LL.lawful (T .X) (T .laws) 𝓤 H A W .typed h (LL.vals (T .X) (T .laws) h) is-h .0)) $
       assigns ! (field-of E ! (F .answer) (An .gives-field) vs cs type (An .gives-lies) fits has (An .gives-val d))
       (from ! (stop !))
-      (sets ! E 0 r cs (ok .result (κs .1) (An .gives d)) (spelled-wt 𝓤 H A W (An .spelled) (An .gives d) is-r)) $
+      (sets ! E 0 r cs takes-r (fits-r .1)) $
       move ! (1 ∷ 6 ∷ 7 ∷ 8 ∷ []) $ shut T h b o ! tt is-h $ move ! (3 ∷ []) $
-      ends ! E r (put 0 r cs) (ok .result (κs .1) (An .gives d)) (content-put 0 r cs) (
+      ends ! E r (put 0 r cs) takes-r (content-put 0 r cs) (
       -- [the record's value; the borrow; its token; what the answer owns; the tokens; the last values; what is ensured]
       use1 W (‵ (F .left (κs .0) x h)) (W .names .obs-res (x .name) (row (T .X) .coded .code h)) $
       move ! (6 ∷ []) $ use1 W (raw (Te .Ensures κs a (An .gives d) (h, ws .1))) (follows κs a d ws) $

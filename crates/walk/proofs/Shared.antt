@@ -22,7 +22,7 @@ use denote.Steps.{owned, shuts, nothing}
 use denote.Struct.Declared.{row}
 use denote.Struct.Laws as LL
 use Rattle.walk.proofs.Locals.{put, content-put}
-use Rattle.walk.proofs.Spelled.{Spelled, struct, spelled-wt}
+use Rattle.walk.proofs.Spelled.{Spelled, struct, spelled-fits}
 use Rattle.walk.proofs.Frame.{ends}
 use Rattle.walk.proofs.Parameters.{Param, count}
 use Rattle.walk.proofs.Form.{Record, Form, w, at-call}
@@ -68,16 +68,16 @@ module _ {M : Type 1} (𝓤 : URA M) (H : Heap 𝓤) (A : Atoms 𝓤) (W : Given
       let Te : Terms 𝓤 = entry-of F 𝓤 kept Ensured in
       let b : ℕ = a .0 .ptr .0 in
       let o : ℕ = a .0 .ptr .1 in
-      looked T h b o ! tt (λ s was. move ! (7 ∷ 0 ∷ []) $
+      looked T h b o ! tt (λ s was. let good = spelled-fits 𝓤 H A W (struct (T .X) (T .laws)) h was in move ! (7 ∷ 0 ∷ []) $
       -- [the locals; a share of the record's cell; what it owns; the open borrow; the borrow; its value; the tokens]
-      to-call W C Λ E ok z (spelled-wt 𝓤 H A W (struct (T .X) (T .laws)) h was) $ move ! (1 ∷ 2 ∷ 3 ∷ []) $
+      to-call W C Λ E ok z good $ move ! (1 ∷ 2 ∷ 3 ∷ []) $
       shuts ! tt (row (T .X)) s h (w F z ∷ []) b o $
       owned ! (row (T .X)) (Is (row (T .X))) (LL.makes (T .X) (T .plains) 𝓤 H A) h (w F z ∷ []) was $
       move ! (5 ∷ 0 ∷ 6 ∷ 2 ∷ []) $
-      over-call W C Λ E ok z kept Ensures fm core known (qs .1) (λ r ws is.
+      over-call W C Λ E ok z kept Ensures fm core known (qs .1) good (λ r ws is.
       let v : Val = L (κs .1) .val r in
       -- [the locals; what the result owns; the tokens; the last values; what the core ensures; the token of the borrow]
-      ends ! E v (put 0 v (at-call F z)) (ok .result (κs .1) r) (content-put 0 v (at-call F z)) (
+      ends ! E v (put 0 v (at-call F z)) (ok .result (κs .1) r (spelled-fits 𝓤 H A W (L (κs .1)) r is .0)) (content-put 0 v (at-call F z)) (
       move ! (3 ∷ []) $ use1 W (raw (Te .Ensures κs a r (tt, ws .1))) (follows κs a r ws) $
       move ! (3 ∷ []) $ fsplit ! $ drop ! $ nothing ! $ fjoin ! $ keep ! (4 ∷ 3 ∷ 2 ∷ 0 ∷ 1 ∷ []) $ join ! $
       by ! (gives 𝓤 H A Te κs qs a W v r (tt, ws .1)))))

@@ -1,14 +1,17 @@
--- `done`: one more access is counted. Assumes nothing.
+-- `done`: `acts` rises by 1, and `spill` is as step 2 leaves it. Assumes nothing.
 use native.Mathlib.Numerals.{add-one}
 use borrow.Author.Needs.{needs}
 use Rattle.access.proofs.done.Statement.{statement}
 use Rattle.access.proofs.done.Tie as tie
 
-add-t8 : tie.Need-add-t8
-add-t8 c = search needs
+spill-after-requires : tie.Need-spill-after-requires
+spill-after-requires c κs = search needs
+
+add-t11 : tie.Need-add-t11
+add-t11 c = search needs
 
 returns : tie.Need-returns
-returns c = rw add-one
+returns c = simp (c .spill-after .ensures, add-one)
 
 pub done-spec : {M : Type 1} → statement M
-done-spec = tie.close (tie.spec add-t8 returns)
+done-spec = tie.close (tie.spec spill-after-requires add-t11 returns)

@@ -1,12 +1,18 @@
 -- `destination`: the sum is the definition's. Assumes nothing.
-use Prim.Native.Nat.{_+_, _%_, _<_}
+use Prim.Native.Nat.{ℕ, _%_, _≤_}
 use mathlib.Core.Path.{refl}
 use native.Mathlib.Nat.{mod-lt}
 use native.Mathlib.Omega.{arith}
 use Rattle.engine.specs.Steps.{destinationFrom}
+use mir.Val.{Fits}
+use mir.Syntax.{w16}
 use borrow.Author.Needs.{needs}
 use Rattle.verdict.proofs.destination.Statement.{statement}
 use Rattle.verdict.proofs.destination.Tie as tie
+
+-- whatever is divided, what is left by Q slots fits
+rest-fits : (x q : ℕ) → 1 ≤ q → q ≤ 5500 → Fits w16 (x % q)
+rest-fits x q some few = omega (arith, mod-lt x some)
 
 add-t4 : tie.Need-add-t4
 add-t4 c = search needs
@@ -17,8 +23,7 @@ rem-t5 c = search needs
 cast-t6 : tie.Need-cast-t6
 cast-t6 c =
     let a = c .before .args in
-    let below : (a .head + a .over) % a .s .q < a .s .q = mod-lt (a .head + a .over) (omega arith) in
-    omega (arith, below)
+    rest-fits _ (a .s .q) (omega arith) (omega arith)
 
 returns : tie.Need-returns
 unfolding destinationFrom

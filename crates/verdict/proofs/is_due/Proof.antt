@@ -1,8 +1,9 @@
--- `is_due`: an estimate below A is none or no multiple. Assumes nothing.
-use mathlib.Core.Path.{sym}
+-- `is_due`: an estimate below A is none or no multiple, and A is one. Assumes nothing.
+use mathlib.Core.Path.{sym, ap, _∙_}
 use native.Mathlib.Omega.{arith}
 use borrow.Author.Tests.{ne-eqb}
-use Rattle.tracking.proofs.Due.{due-below}
+use Rattle.tracking.specs.Track.{isDue}
+use Rattle.tracking.proofs.Due.{due-below, due-at}
 use borrow.Author.Needs.{needs}
 use Rattle.verdict.proofs.is_due.Statement.{statement}
 use Rattle.verdict.proofs.is_due.Tie as tie
@@ -10,13 +11,18 @@ use Rattle.verdict.proofs.is_due.Tie as tie
 returns : tie.Need-returns
 returns c = sym (due-below _ _ (c .if1 .taken))
 
+returns-2 : tie.Need-returns-2
+returns-2 c =
+    let a = c .before .before .before .before .args in
+    sym (ap (isDue (a .s .a)) (c .if2 .taken) ∙ due-at (a .s .a) (omega arith))
+
 rem-result : tie.Need-rem-result
 rem-result c = search needs
 
-returns-2 : tie.Need-returns-2
-returns-2 c =
-    let a = c .before .before .before .args in
+returns-3 : tie.Need-returns-3
+returns-3 c =
+    let a = c .before .before .before .before .before .args in
     simp (ne-eqb (a .estimate) 0 (λ z. omega arith))
 
 pub is-due-spec : {M : Type 1} → statement M
-is-due-spec = tie.close (tie.spec returns rem-result returns-2)
+is-due-spec = tie.close (tie.spec returns returns-2 rem-result returns-3)
