@@ -176,7 +176,7 @@ fn read(given: Memory, row: u32) -> Step {
     let r = m.lent[3] % 257;
     let k = m.lent[4] % 257;
     let c = m.lent[5] % 257;
-    let served = access::read(
+    let served = rank::read_core(
         m.control,
         m.settings,
         row,
@@ -196,9 +196,9 @@ fn read(given: Memory, row: u32) -> Step {
     after.counts = counts;
     let control = served.control;
     after.control = control;
-    let answer = served.answer;
+    let outcome = served.outcome;
     Step {
-        answer: placed(figures::numbers_of(answer)),
+        answer: placed(outcome),
         memory: after,
     }
 }
@@ -211,13 +211,13 @@ fn write(given: Memory, row: u32, column: usize) -> Step {
     let mut rows = m.rows;
     let mut counts = m.counts;
     let bytes = m.bytes;
-    let b = m.lent[7] % 257;
+    let b = m.lent[9] % 257;
     let n = m.lent[1] % 257;
     let f = m.lent[2] % 257;
     let r = m.lent[3] % 257;
     let k = m.lent[4] % 257;
     let c = m.lent[5] % 257;
-    let served = access::write(
+    let served = rank::write_core(
         m.control,
         m.settings,
         row,
@@ -237,9 +237,9 @@ fn write(given: Memory, row: u32, column: usize) -> Step {
     after.counts = counts;
     let control = served.control;
     after.control = control;
-    let answer = served.answer;
+    let outcome = served.outcome;
     Step {
-        answer: placed(figures::numbers_of(answer)),
+        answer: placed(outcome),
         memory: after,
     }
 }
@@ -247,10 +247,10 @@ fn write(given: Memory, row: u32, column: usize) -> Step {
 // One of the five calls, by its verb.
 pub fn call(m: Memory, kind: usize, row: u32, column: usize) -> Step {
     match kind {
-        8 => set_up(m),
-        9 => tick(m),
-        10 => inspect(m, row),
-        11 => read(m, row),
+        10 => set_up(m),
+        11 => tick(m),
+        12 => inspect(m, row),
+        13 => read(m, row),
         _ => write(m, row, column),
     }
 }

@@ -36,11 +36,19 @@ pub fn other_figure(a: [u64; 6], b: [u64; 6]) -> usize {
     i
 }
 
-// The first part of the memory that the call changed, of all or of those that no line has spoken of; 7 where there is none.
+// The first element in which a part of the memory is not as it was before the call; 256 where there is none. The places of
+// bank 0 belong to the part `control`.
+fn changed_element(c: Case, part: usize) -> usize {
+    let places = (part == memory::SPILL) | (part == memory::ACTS);
+    let from: usize = if places { 1 } else { 0 };
+    memory::difference(c.now, c.before, part, from)
+}
+
+// The first part of the memory that the call changed, of all or of those that no line has spoken of; 9 where there is none.
 pub fn changed_part(c: Case, all: bool) -> usize {
     let mut part: usize = 0;
-    while part < 7 {
-        let i = memory::difference(c.now, c.before, part, 0);
+    while part < 9 {
+        let i = changed_element(c, part);
         if (i < 256) & (all | !c.said[part]) {
             return part;
         }
@@ -96,10 +104,10 @@ pub fn accepted(numbers: &Numbers, c: Case, count: usize) -> Case {
 // Case: the memory is as it was before the call, all of it or what no line has spoken of.
 pub fn kept(c: Case, all: bool) -> Case {
     let part = changed_part(c, all);
-    if part == 7 {
+    if part == 9 {
         return report::right(c);
     }
-    let i = memory::difference(c.now, c.before, part, 0);
+    let i = changed_element(c, part);
     report::wrong_part(
         c,
         part,
@@ -140,7 +148,7 @@ pub fn shown_is(numbers: &Numbers, c: Case, count: usize) -> Case {
 // Case: a part holds the numbers, and what lies behind it is as it was before the call.
 pub fn part_is(numbers: &Numbers, c: Case, part: usize, count: usize) -> Case {
     let mut d = c;
-    d.said[part % 8] = true;
+    d.said[part % 10] = true;
     let i = other_number(numbers, c.now, part, 0, count);
     if i < 256 {
         return report::wrong_part(d, part, i, numbers[i], memory::element(c.now, part, i));

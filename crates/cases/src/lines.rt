@@ -12,8 +12,9 @@ use crate::script::Numbers;
 use crate::script::Scan;
 use geometry::Settings;
 
-// `settings`: a new memory.
-fn settings(numbers: &Numbers, c: Case) -> Case {
+// `settings`: a new memory. There is one bank where no number of banks is told.
+fn settings(numbers: &Numbers, c: Case, count: usize) -> Case {
+    let b = if count == 7 { numbers[6] } else { 1 };
     let s = Settings {
         n: expect::narrow(numbers[0]),
         q: expect::narrow(numbers[1]),
@@ -21,6 +22,7 @@ fn settings(numbers: &Numbers, c: Case) -> Case {
         k: expect::narrow(numbers[3]),
         a: expect::narrow(numbers[4]),
         l: expect::narrow(numbers[5]),
+        b: expect::narrow(b),
     };
     let m = memory::new(s);
     let mut d = c;
@@ -59,7 +61,7 @@ fn with_memory(c: Case, m: Memory) -> Case {
 
 pub fn with_length(given: Memory, part: usize, n: usize) -> Memory {
     let mut m = given;
-    m.lent[part % 8] = n;
+    m.lent[part % 10] = n;
     m
 }
 
@@ -86,7 +88,7 @@ fn set_part(numbers: &Numbers, c: Case, part: usize, count: usize) -> Case {
 fn answered(c: Case, before: Memory, step: Step, verb: usize) -> Case {
     let now = step.memory;
     let answer = step.answer;
-    let said = [false; 8];
+    let said = [false; 10];
     let mut d = c;
     d.before = before;
     d.now = now;
@@ -281,7 +283,7 @@ fn on_memory(numbers: &Numbers, c: Case, s: Scan) -> Case {
 // A line that needs neither.
 fn alone(numbers: &Numbers, c: Case, s: Scan) -> Case {
     if s.verb == script::SETTINGS {
-        return settings(numbers, c);
+        return settings(numbers, c, s.count);
     }
     if s.verb == script::ORDER {
         return order::run(c);

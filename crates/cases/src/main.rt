@@ -1,5 +1,5 @@
 // Runs a script of cases on the engine, and prints what differs, by the line of the script. The script that stands beside this
-// program, `stdin`, has document 01's cases, and says how a script is written.
+// program, `stdin`, has the cases of documents 01 and 02, and says how a script is written.
 ghost use mathlib.Core.Path.{_≡_};
 ghost use lib.ListN.{length};
 use geometry::Settings;
@@ -41,6 +41,7 @@ fn begin() -> Case {
         k: 0,
         a: 0,
         l: 0,
+        b: 0,
     });
     Case {
         now: m,
@@ -48,7 +49,7 @@ fn begin() -> Case {
         ready: false,
         answer: [0u64; 6],
         called: 0,
-        said: [false; 8],
+        said: [false; 10],
         line: 1,
         name: 0,
         name_end: 0,

@@ -4,7 +4,8 @@ ghost use Prim.Native.Nat.{_≤_};
 use geometry::Control;
 use geometry::Settings;
 
-// The parts. The bytes that a write writes, or that an inspect shows, are one more.
+// The parts. The control record has three: its fields, of the banks those of bank 0, and the places of all banks in `spill`
+// and in `acts`. The bytes that a write writes, or that an inspect shows, are one more.
 pub const CONTROL: usize = 0;
 
 pub const STORE: usize = 1;
@@ -19,7 +20,11 @@ pub const COUNTS: usize = 5;
 
 pub const BUFFER: usize = 6;
 
-pub const BYTES: usize = 7;
+pub const SPILL: usize = 7;
+
+pub const ACTS: usize = 8;
+
+pub const BYTES: usize = 9;
 
 pub struct Memory {
     pub settings: Settings,
@@ -32,15 +37,16 @@ pub struct Memory {
     pub buffer: [u8; 256],
     pub bytes: [u8; 256],
     // by part, how many elements are lent
-    pub lent: [usize; 8],
+    pub lent: [usize; 10],
 }
 
+// A field of the control record; of the banks, those of bank 0.
 fn field(c: Control, i: usize) -> u64 {
     match i {
         0 => c.head as u64,
         1 => c.passed as u64,
-        2 => c.spill as u64,
-        3 => c.acts as u64,
+        2 => wide32(c.spill[0]),
+        3 => wide32(c.acts[0]),
         _ => 0,
     }
 }
@@ -50,9 +56,43 @@ fn with_field(c: Control, i: usize, value: u32) -> Control {
     match i {
         0 => d.head = value,
         1 => d.passed = value,
-        2 => d.spill = value,
-        _ => d.acts = value,
+        2 => d.spill[0] = value,
+        _ => d.acts[0] = value,
     }
+    d
+}
+
+// The place of bank i in `spill`, and in `acts`, 0 past the last.
+fn spill_of(c: Control, i: usize) -> u64 {
+    if 16 <= i {
+        return 0;
+    }
+    wide32(c.spill[i])
+}
+
+fn acts_of(c: Control, i: usize) -> u64 {
+    if 16 <= i {
+        return 0;
+    }
+    wide32(c.acts[i])
+}
+
+// The control record with a value in the place of bank i.
+fn with_spill(c: Control, i: usize, value: u32) -> Control {
+    let mut d = c;
+    if 16 <= i {
+        return d;
+    }
+    d.spill[i] = value;
+    d
+}
+
+fn with_acts(c: Control, i: usize, value: u32) -> Control {
+    let mut d = c;
+    if 16 <= i {
+        return d;
+    }
+    d.acts[i] = value;
     d
 }
 
@@ -81,6 +121,8 @@ pub fn element(m: Memory, part: usize, i: usize) -> u64 {
         4 => wide16(m.rows[i]),
         5 => wide32(m.counts[i]),
         6 => wide8(m.buffer[i]),
+        7 => spill_of(m.control, i),
+        8 => acts_of(m.control, i),
         _ => wide8(m.bytes[i]),
     }
 }
@@ -102,6 +144,14 @@ pub fn with_element(m: Memory, part: usize, i: usize, value: u64) -> Memory {
         4 => n.rows[i] = (value % 65536) as u16,
         5 => n.counts[i] = (value % 4294967296) as u32,
         6 => n.buffer[i] = (value % 256) as u8,
+        7 => {
+            let c = with_spill(m.control, i, (value % 4294967296) as u32);
+            n.control = c;
+        }
+        8 => {
+            let c = with_acts(m.control, i, (value % 4294967296) as u32);
+            n.control = c;
+        }
         _ => n.bytes[i] = (value % 256) as u8,
     }
     n
@@ -109,7 +159,7 @@ pub fn with_element(m: Memory, part: usize, i: usize, value: u64) -> Memory {
 
 // How many elements of a part are lent.
 pub fn length(m: Memory, part: usize) -> usize {
-    m.lent[part % 8]
+    m.lent[part % 10]
 }
 
 // The first element, from one on, in which a part of two memories differs, among those lent and the four behind them; 256
@@ -150,22 +200,22 @@ fn store_length(s: Settings) -> usize {
     cut((cut(homes) + cut(slots)) as u64)
 }
 
+// K × B, or 256 where it is more.
+fn tracker_length(s: Settings) -> usize {
+    cut((s.k as u64) * (s.b as u64))
+}
+
 // A memory for the settings, as set-up leaves it. Each part is lent in its length, or as far as there is room. The read
 // buffer holds 200s.
 pub fn new(s: Settings) -> Memory {
     let store = store_length(s);
     let n = cut(s.n as u64);
     let q = cut(s.q as u64);
-    let k = cut(s.k as u64);
+    let k = tracker_length(s);
     let w = cut(s.w as u64);
     Memory {
         settings: s,
-        control: Control {
-            head: 0,
-            passed: 0,
-            spill: 0,
-            acts: 0,
-        },
+        control: geometry::NEW,
         store: first_bytes(),
         forward: [65535u16; 256],
         reverse: [65535u16; 256],
@@ -173,6 +223,6 @@ pub fn new(s: Settings) -> Memory {
         counts: [0u32; 256],
         buffer: [200u8; 256],
         bytes: [0u8; 256],
-        lent: [4, store, n, q, k, k, w, 0],
+        lent: [4, store, n, q, k, k, w, 16, 16, 0],
     }
 }

@@ -52,6 +52,7 @@ fn fitted(defects: u64) -> Memory {
         k: 2,
         a: 2,
         l: l,
+        b: 1,
     });
     if has(defects, LENGTH) {
         return lines::with_length(

@@ -14,7 +14,7 @@ pub struct Case {
     pub answer: [u64; 6],
     pub called: usize,
     // by part, whether a line has said what the call left there
-    pub said: [bool; 8],
+    pub said: [bool; 10],
     // the line, from 1
     pub line: u64,
     // where the name of the group begins and ends in the script
@@ -74,8 +74,9 @@ pub fn wrong_answer(c: Case, i: usize, expected: u64, answered: u64) -> Case {
 }
 
 pub fn wrong_part(c: Case, part: usize, i: usize, expected: u64, answered: u64) -> Case {
-    let names: &[u8] = b" control   store forward reverse    rows  counts  buffer    part";
-    let a = 8 * (part % 8);
+    let names: &[u8] =
+        b" control   store forward reverse    rows  counts  buffer   spill    acts    part";
+    let a = 8 * (part % 10);
     let e = a + 8;
     wrong(c, &names[a..e], i, expected, answered)
 }

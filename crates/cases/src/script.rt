@@ -3,47 +3,47 @@
 
 pub type Numbers = [u64; 512];
 
-// The verbs, by their places in `NAMES`. The first eight are the parts of a memory.
-pub const SET_UP: usize = 8;
+// The verbs, by their places among the names in `word`. The first ten are the parts of a memory.
+pub const SET_UP: usize = 10;
 
-pub const TICK: usize = 9;
+pub const TICK: usize = 11;
 
-pub const INSPECT: usize = 10;
+pub const INSPECT: usize = 12;
 
-pub const READ: usize = 11;
+pub const READ: usize = 13;
 
-pub const WRITE: usize = 12;
+pub const WRITE: usize = 14;
 
-pub const SPAN: usize = 13;
+pub const SPAN: usize = 15;
 
-pub const SIZE: usize = 14;
+pub const SIZE: usize = 16;
 
-pub const SETTINGS: usize = 16;
+pub const SETTINGS: usize = 18;
 
-pub const LEND: usize = 17;
+pub const LEND: usize = 19;
 
-pub const UNDO: usize = 18;
+pub const UNDO: usize = 20;
 
-pub const ACCEPTED: usize = 19;
+pub const ACCEPTED: usize = 21;
 
-pub const REFUSED: usize = 20;
+pub const REFUSED: usize = 22;
 
-pub const REST: usize = 21;
+pub const REST: usize = 23;
 
-pub const FROM: usize = 22;
+pub const FROM: usize = 24;
 
-pub const ORDER: usize = 23;
+pub const ORDER: usize = 25;
 
-pub const GROUP: usize = 24;
+pub const GROUP: usize = 26;
 
-pub const VISIBLE: usize = 25;
+pub const VISIBLE: usize = 27;
 
 // Second words, and none.
-pub const IS: usize = 26;
+pub const IS: usize = 28;
 
-pub const KEPT: usize = 27;
+pub const KEPT: usize = 29;
 
-pub const NONE: usize = 28;
+pub const NONE: usize = 30;
 
 // How far a line is read.
 pub struct Scan {
@@ -68,8 +68,8 @@ pub struct Scan {
 
 impl Scan {
     pub const START: Scan = Scan {
-        verb: 28,
-        word: 28,
+        verb: 30,
+        word: 30,
         count: 0,
         value: 0,
         packed: 2314885530818453536,
@@ -152,7 +152,8 @@ fn place_of(names: &[u8], packed: u64) -> usize {
 // A word ends, before index i of the script.
 fn word(s: Scan, i: usize) -> Scan {
     let place = place_of(
-        b" control   store forward reverse    rows  counts  buffer    part  set-up    tick inspect    read   write    span    size    most\
+        b" control   store forward reverse    rows  counts  buffer   spill    acts    part\
+\x20 set-up    tick inspect    read   write    span    size    most\
 settings    lend    undoaccepted refused    rest    from   order   group visible      is    kept",
         s.packed,
     );
@@ -181,10 +182,10 @@ fn largest(verb: usize, i: usize) -> u64 {
         return 18446744073709551615;
     }
     match verb {
-        1 | 6 | 7 | 25 => 255,
+        1 | 6 | 9 | 27 => 255,
         2 | 3 | 4 => 65535,
-        13 | 14 | 15 => 18446744073709551615,
-        17 => 256,
+        15 | 16 | 17 => 18446744073709551615,
+        19 => 256,
         _ => 4294967295,
     }
 }
@@ -192,14 +193,15 @@ fn largest(verb: usize, i: usize) -> u64 {
 // How many numbers a verb takes.
 fn takes(verb: usize, count: usize) -> bool {
     match verb {
-        0 | 15 => count == 4,
-        8 | 9 | 18 | 21 | 23 | 24 => count == 0,
-        10 | 20 => count == 1,
-        11 | 13 | 22 => (count == 1) | (count == 2),
-        12 => 2 <= count,
-        14 | 17 => count == 5,
-        16 => count == 6,
-        19 => (count == 0) | (count == 3) | (count == 4),
+        0 | 17 => count == 4,
+        7 | 8 => count == 16,
+        10 | 11 | 20 | 23 | 25 | 26 => count == 0,
+        12 | 22 => count == 1,
+        13 | 15 | 24 => (count == 1) | (count == 2),
+        14 => 2 <= count,
+        16 | 19 => count == 5,
+        18 => (count == 6) | (count == 7),
+        21 => (count == 0) | (count == 3) | (count == 4),
         _ => true,
     }
 }
@@ -276,7 +278,7 @@ pub fn is_good(s: Scan) -> bool {
         & (s.verb != REST)
         & (s.verb != FROM)
         & (s.verb != VISIBLE)
-        & (s.verb != 7);
+        & (s.verb != 9);
     let told = ((s.verb == REST) & (s.word == KEPT)) | ((s.verb == VISIBLE) & (s.word == IS));
     let from = (s.verb == FROM) & (SET_UP <= s.word) & (s.word <= WRITE);
     s.good & (part | bare | told | from) & (s.verb < IS) & takes(s.verb, s.count)

@@ -9,7 +9,7 @@ use Rattle.geometry.specs.declared.Settings.{Settings}
 use Rattle.geometry.specs.Numbering.{homeRow, slotRow}
 use Rattle.history.specs.Run.{reportOf}
 use Rattle.history.specs.Tally.{start, hit, Stretch, openingsIn, quarantinesIn, epochs}
-use Rattle.computed.specs.Cases.{settingsOf}
+use Rattle.computed.specs.Cases.{settingsOf, withBanks}
 use Rattle.computed.proofs.Traced.{setUpAnswers, traced}
 
 -- the values of A
@@ -55,7 +55,7 @@ pub slot-reached :
 unfolding traced hit
 slot-reached = refl
 
--- ---- with Q = 2 × floor(L / A) − 1 an access is answered 9
+-- ---- with one bank and Q = 2 × floor(L / A) − 1 an access is answered 9
 
 abbrev pub shortSettings : ℕ → Settings
 shortSettings a =
@@ -74,7 +74,7 @@ pub short-reached :
 unfolding traced
 short-reached = refl
 
--- ---- there are floor(L / A) quarantines: in the first epoch of the same history
+-- .. and there are floor(L / A) quarantines, in the first epoch
 
 -- the quarantines, epoch by epoch
 pub quarantines-reached :
@@ -83,10 +83,38 @@ pub quarantines-reached :
 unfolding traced
 quarantines-reached = refl
 
+-- ---- with B banks and Q = 2 × B × floor(L / A) − 1 an access is answered 9: 'quarantines are at most B times the old figure,
+-- and so are the slots needed' (document 02, Ask 5). Here B is 2
+
+abbrev pub shortBanks : ℕ → Settings
+shortBanks a =
+    let b : ℕ = 2 in
+    let l : ℕ = a in
+    withBanks b (settingsOf 4 (2 * (b * (l / a)) - 1) 1 1 a l)
+
+-- rows 0 and 1, one of each bank, go to slots 0 and 1. In the next epoch row 0 leaves slot 0 worn in bank 0 and goes to slot 2.
+-- Row 1 would pass slot 0, and slot 1, which is its own, and go to slot 2: its rise is 3, `passed` is 1 and Q is 3
+abbrev pub shortBankSteps : ℕ → List ℕ
+shortBankSteps a = often a (0 ∷ 1 ∷ []) ++ 65535 ∷ often a (0 ∷ 1 ∷ [])
+
+-- the last of the 4A + 1 steps alone is refused
+pub short-banks-reached :
+    map (λ a. map (λ e. e .answer .number) (traced (shortBanks a) (shortBankSteps a))) thresholds
+    ≡ map (λ a. replicate (4 * a) 0 ++ 9 ∷ []) thresholds
+unfolding traced
+short-banks-reached = refl
+
+-- .. and there are B × floor(L / A) quarantines, in the first epoch
+pub bank-quarantines-reached :
+    map (λ a. map quarantinesIn (epochsOf (shortBanks a) (shortBankSteps a))) thresholds
+    ≡ map (λ a. ((shortBanks a) .b * ((shortBanks a) .l / (shortBanks a) .a)) ∷ 1 ∷ []) thresholds
+unfolding traced
+bank-quarantines-reached = refl
+
 -- ---- set-up is accepted with each of these settings
 
 pub all-taken :
-    map setUpAnswers (map twoSlots thresholds ++ map shortSettings thresholds)
-    ≡ replicate 6 0
+    map setUpAnswers (map twoSlots thresholds ++ map shortSettings thresholds ++ map shortBanks thresholds)
+    ≡ replicate 9 0
 unfolding traced
 all-taken = refl

@@ -4,12 +4,14 @@ use mathlib.Core.List.{List}
 use Rattle.geometry.specs.declared.Settings.{Settings}
 use Rattle.conditions.specs.Conditions.{rangesHold, limitHolds, storeHolds, lengthsHold}
 use Rattle.scan.specs.Scan.{lowest, some}
+use Rattle.banks.specs.Portions.{portion, withPortion}
+use Rattle.banks.specs.Banks.{bankOf, someBank}
 use Rattle.tracking.specs.Track.{track}
 use Rattle.tracking.specs.Worn.{worn}
 use Rattle.row_layout.specs.Bytes.{copied}
 use Rattle.engine.specs.Steps.{skippedOf, destinationFrom, riseTo, move}
-use Rattle.engine.specs.Ladder.{stops, _▹_, settingsNumber, fitNumber, ringUnsound, trackerUnsound, controlUnsound, pointsBack, rowNumber, quarantineNumber, lateNumber}
-use Rattle.engine.specs.Ladder.{tickNumber, accessNumber}
+use Rattle.engine.specs.Ladder.{stops, _▹_, settingsNumber, fitNumber, pointsBack, rowNumber, quarantineNumber, lateNumber}
+use Rattle.engine.specs.Ladder.{ringUnsound, trackerUnsound, trackersUnsound, controlUnsound, tickNumber, accessNumber}
 use Rattle.engine.specs.Calls as calls
 use Rattle.history.specs.Run.{Event, step}
 use Rattle.trace_steps.specs.Steps.{stepsFrom}
@@ -21,7 +23,8 @@ setUpAnswers S = (calls.setUp S (lent S)) .number
 
 -- the steps after set-up, with their answers; `unfolding traced` opens all that is named here
 unfoldable pub traced : Settings → List ℕ → List Event
-unfolding calls.setUp calls.noted calls.tick calls.read calls.accessed step stepsFrom
-    lowest some track worn copied skippedOf destinationFrom riseTo move stops _▹_ settingsNumber fitNumber rowNumber quarantineNumber lateNumber tickNumber accessNumber
-    rangesHold limitHolds storeHolds lengthsHold ringUnsound trackerUnsound controlUnsound pointsBack
+unfolding calls.setUp calls.noted calls.zeroBelow calls.tick calls.read calls.accessed step stepsFrom
+    lowest some portion withPortion bankOf someBank track worn copied skippedOf destinationFrom riseTo move
+    stops _▹_ settingsNumber fitNumber rowNumber quarantineNumber lateNumber tickNumber accessNumber
+    rangesHold limitHolds storeHolds lengthsHold ringUnsound trackerUnsound trackersUnsound controlUnsound pointsBack
 traced S steps = stepsFrom S ((calls.setUp S (lent S)) .state) steps

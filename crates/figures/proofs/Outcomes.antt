@@ -13,20 +13,24 @@ use Rattle.figures.specs.declared.Outcome.{Outcome}
 use Rattle.figures.specs.Outcome.{outcomeOf}
 use Rattle.figures.specs.Promises.{AccessPromise}
 
-pub in-numbers : {a : Accessed} {after : State} {answer : Access} {filled : List ℕ} {outcome : Outcome} → accessedOf after answer filled ≡ a → outcome ≡ outcomeOf answer
-    → AccessPromise a after outcome filled
+pub in-numbers : {a : Accessed} {after : State} {answer : Access} {filled : List ℕ} {outcome : Outcome}
+    → accessedOf after answer filled ≡ a → outcome ≡ outcomeOf answer → AccessPromise a after outcome filled
 in-numbers e o =
     (ap (λ (x : Accessed). x .state) e, o ∙ ap (λ (x : Accessed). outcomeOf (x .answer)) e, ap (λ (x : Accessed). x .buffer) e)
 
-pub refused-outcome : (number : ℕ) → outcomeOf (Refused number) ≡ record { number = number; slot = empty; row = empty; estimate = 0; place = 0 }
+pub refused-outcome : (number : ℕ)
+    → outcomeOf (Refused number) ≡ record { number = number; slot = empty; row = empty; estimate = 0; place = 0 }
 refused-outcome number = refl
 
 module _ (p e : ℕ) where
-  pub stayed-outcome : outcomeOf (Done (physical p) e Stayed) ≡ record { number = 0; slot = empty; row = empty; estimate = e; place = p }
+  pub stayed-outcome : outcomeOf (Done (physical p) e Stayed)
+      ≡ record { number = 0; slot = empty; row = empty; estimate = e; place = p }
   stayed-outcome = refl
 
-  pub filled-outcome : (d : ℕ) → outcomeOf (Done (physical p) e (ToSlot (slot d))) ≡ record { number = 0; slot = d; row = empty; estimate = e; place = p }
+  pub filled-outcome : (d : ℕ) → outcomeOf (Done (physical p) e (ToSlot (slot d)))
+      ≡ record { number = 0; slot = d; row = empty; estimate = e; place = p }
   filled-outcome d = refl
 
-  pub evicted-outcome : (d v : ℕ) → outcomeOf (Done (physical p) e (OverSlot (slot d) (visible v))) ≡ record { number = 0; slot = d; row = v; estimate = e; place = p }
+  pub evicted-outcome : (d v : ℕ) → outcomeOf (Done (physical p) e (OverSlot (slot d) (visible v)))
+      ≡ record { number = 0; slot = d; row = v; estimate = e; place = p }
   evicted-outcome d v = refl

@@ -18,7 +18,8 @@ use Rattle.figures.specs.declared.Span.{Span}
 use Rattle.figures.specs.Span.{spanOf}
 
 -- the part of the store that the span names is the part that inspect returns
-pub span-part : (S : Settings) (σ : State) (r : ℕ) → take ((spanOf S σ r) .length) (drop ((spanOf S σ r) .start) (σ .store)) ≡ inspectPart S σ r
+pub span-part : (S : Settings) (σ : State) (r : ℕ)
+    → take ((spanOf S σ r) .length) (drop ((spanOf S σ r) .start) (σ .store)) ≡ inspectPart S σ r
 unfolding spanOf inspectPart rowBytes
 span-part S σ r = elim (split (eqb (inspectNumber S σ r) 0)) [ inl e ↦ rw e refl | inr e ↦ rw e refl ]
 
@@ -28,6 +29,7 @@ module _ (S : Settings) (σ : State) (r x : ℕ) (same : x ≡ inspectNumber S �
   unfolding spanOf
   span-none n span e = e ∙ rw (ne-eqb (inspectNumber S σ r) 0 (λ z. n (same ∙ z)))
 
-  pub span-row : x ≡ 0 → (p : PhysicalRow) → p ≡ physical (place S σ r) → (span : Span) → span ≡ record { start = p .0 * S .w; length = S .w } → span ≡ spanOf S σ r
+  pub span-row : x ≡ 0 → (p : PhysicalRow) → p ≡ physical (place S σ r) → (span : Span)
+      → span ≡ record { start = p .0 * S .w; length = S .w } → span ≡ spanOf S σ r
   unfolding spanOf
   span-row z p placed span e = e ∙ rw (eq-eqb (inspectNumber S σ r) 0 (sym same ∙ z), placed)

@@ -1,9 +1,11 @@
 // The lines that a trace prints (document 01, 'Trace program'): from an answer to a line.
 ghost use mathlib.Core.Path.{_≡_};
-ghost use Rattle.lines.specs.Lines.{slotFigure, rowFigure, lineOfAccess};
+ghost use Rattle.lines.specs.Lines.{figureOf, lineOfAccess};
 ghost use Rattle.lines.specs.Lines.{bare as Lines·bare};
-use engine::Access;
-use engine::Move;
+use figures::Outcome;
+
+// The mark for none in an answer.
+const NONE: u32 = 65535;
 
 // A figure of a line.
 pub enum Figure {
@@ -34,37 +36,27 @@ pub fn bare(number: u32) -> Line
     }
 }
 
-fn slot_figure(moved: Move) -> Figure
-    ensures { λ r. ⌜ r ≡ slotFigure moved ⌝ }
+// The figure of a slot or a row.
+fn figure_of(x: u32) -> Figure
+    ensures { λ r. ⌜ r ≡ figureOf x ⌝ }
 {
-    match moved {
-        Move::Stayed => Figure::Dash,
-        Move::ToSlot(d) => Figure::Number(d.0 as u64),
-        Move::OverSlot(d, _) => Figure::Number(d.0 as u64),
+    if x == NONE {
+        return Figure::Dash;
     }
-}
-
-fn row_figure(moved: Move) -> Figure
-    ensures { λ r. ⌜ r ≡ rowFigure moved ⌝ }
-{
-    match moved {
-        Move::Stayed => Figure::Dash,
-        Move::ToSlot(_) => Figure::Dash,
-        Move::OverSlot(_, v) => Figure::Number(v.0 as u64),
-    }
+    Figure::Number(x as u64)
 }
 
 // The line of a read.
-pub fn line_of_access(answer: Access) -> Line
-    ensures { λ r. ⌜ r ≡ lineOfAccess answer ⌝ }
+pub fn line_of_access(outcome: Outcome) -> Line
+    ensures { λ r. ⌜ r ≡ lineOfAccess outcome ⌝ }
 {
-    match answer {
-        Access::Refused(number) => bare(number),
-        Access::Done { place, moved, .. } => Line {
-            number: 0,
-            place: Figure::Number(place.0),
-            slot: slot_figure(moved),
-            row: row_figure(moved),
-        },
+    if outcome.number != 0 {
+        return bare(outcome.number);
+    }
+    Line {
+        number: 0,
+        place: Figure::Number(outcome.place),
+        slot: figure_of(outcome.slot),
+        row: figure_of(outcome.row),
     }
 }

@@ -47,17 +47,7 @@ pub fn read_core(
         ⌜ ReadPromise s before row (now (buffer .entry)) after (r .outcome) (now (buffer .exit)) ⌝ }
 {
     let mut next = control;
-    let t = access::read(
-        next,
-        s,
-        row,
-        buffer,
-        store,
-        forward,
-        reverse,
-        rows,
-        counts,
-    );
+    let t = access::read(next, s, row, buffer, store, forward, reverse, rows, counts);
     let outcome = t.outcome;
     next.head = t.ring.head;
     next.passed = t.ring.passed;

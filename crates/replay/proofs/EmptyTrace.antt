@@ -27,6 +27,6 @@ pub traces-stay : TracesStay
 unfolding replayed
 traces-stay text said e =
     elim (split (isEmptyTrace text)) [
-      | inl f ↦ absurd (Option·some-ne-none said (sym e ∙ few-numbers text (omega (arith, empty-no-numbers text f))))
+      | inl f ↦ absurd (Option·some-ne-none said (sym e ∙ few-numbers text (inl (omega (arith, empty-no-numbers text f)))))
       | inr f ↦ rw (f, e) refl
     ]

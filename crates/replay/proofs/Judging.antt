@@ -16,16 +16,16 @@ use Rattle.engine.specs.Ladder.{settingsNumber}
 use Rattle.engine.proofs.Facts.{settings-facts}
 use Rattle.trace_file.specs.declared.Form.{Form}
 use Rattle.trace_file.specs.declared.Form.the-variants.{Refused, Trace}
-use Rattle.trace_file.specs.Form.{Recorded, traceWithin, isEmptyTrace, recorded}
+use Rattle.trace_file.specs.Form.{Recorded, mostNumbers, traceWithin, isEmptyTrace, recorded}
 use Rattle.trace_file.proofs.Sections.{enough-room}
 use Rattle.lines.specs.declared.Line.{Line}
 use Rattle.lines.specs.Lines.{bare}
 use Rattle.line_text.specs.LineText.{lineBytes}
 use Rattle.trace_steps.specs.Steps.{widest, runLines}
-use Rattle.replay.specs.Memory.{storeBytes, lent, mostStore, mostRows, mostSlots}
-use Rattle.replay.specs.Replay.{numberRoom, pageRoom, refusedLine, played, playedForm, replayed, printedOn}
+use Rattle.replay.specs.Memory.{storeBytes, trackerEntries, lent, memoryFits, mostRows, mostSlots}
+use Rattle.replay.specs.Replay.{pageRoom, refusedLine, played, playedForm, replayed, printedOn}
 
--- ---- the settings, and the store's size
+-- ---- the settings, and the size of the memory
 
 module _ (S : Settings) where
   pub ranges-accepted : settingsNumber S ≡ 0 → rangesHold S ≡ true
@@ -36,19 +36,24 @@ module _ (S : Settings) where
       let R = ranges-facts S (ranges-accepted h) in
       mul-le-mul (add-le-add (R .n-high) (R .q-high)) (R .w-high)
 
+  pub entries-bound : settingsNumber S ≡ 0 → trackerEntries S ≤ 16 * 4096
+  entries-bound h =
+      let R = ranges-facts S (ranges-accepted h) in
+      mul-le-mul (R .b-high) (R .k-high)
+
   module _ (steps : List ℕ) where
     pub settings-refused : {number : ℕ} {line : Line} → number ≡ settingsNumber S → number ≢ 0 → line ≡ bare number
         → lineBytes 0 line ≡ played S steps
     unfolding played
     settings-refused {number} e h shown = rw (shown, ← e, ne-eqb number 0 h) refl
 
-    pub store-refused : settingsNumber S ≡ 0 → mostStore < storeBytes S → refusedLine ≡ played S steps
+    pub memory-refused : settingsNumber S ≡ 0 → memoryFits S ≡ false → refusedLine ≡ played S steps
     unfolding played
-    store-refused e h = rw (e, lt-leb (storeBytes S) mostStore h) refl
+    memory-refused e h = rw (e, h) refl
 
-    pub all-run : settingsNumber S ≡ 0 → storeBytes S ≤ mostStore → runLines S (lent S) steps ≡ played S steps
+    pub all-run : settingsNumber S ≡ 0 → memoryFits S ≡ true → runLines S (lent S) steps ≡ played S steps
     unfolding played
-    all-run e h = rw (e, le-leb (storeBytes S) mostStore h) refl
+    all-run e h = rw (e, h) refl
 
 -- ---- the file's form, with the numbers of the file
 
@@ -56,10 +61,10 @@ module _ {form : Form} (numbers : List ℕ) where
   pub form-refused : form ≡ Refused → refusedLine ≡ playedForm (recorded form numbers)
   form-refused e = rw e refl
 
-  pub form-played : {S : Settings} {count : ℕ} → form ≡ Trace S count
-      → played S (take (8 + count - 8) (drop 8 numbers)) ≡ playedForm (recorded form numbers)
-  form-played {S} {count} e =
-      let same : 8 + count - 8 ≡ count = omega arith in
+  pub form-played : {S : Settings} {first count : ℕ} → form ≡ Trace S first count
+      → played S (take (first + count - first) (drop first numbers)) ≡ playedForm (recorded form numbers)
+  form-played {S} {first} {count} e =
+      let same : first + count - first ≡ count = omega arith in
       rw (e, same) refl
 
 -- ---- the page
@@ -79,7 +84,7 @@ module _ (text : List ℕ) {room : ℕ} where
     page-blank e = rw (page-wide, e) refl
 
     -- the page has room for all lines, and the list of numbers for every trace
-    pub page-long : {places : ℕ} {said : Option Recorded} → isEmptyTrace text ≡ false → numberRoom ≤ places
+    pub page-long : {places : ℕ} {said : Option Recorded} → isEmptyTrace text ≡ false → mostNumbers ≤ places
         → said ≡ traceWithin places text → playedForm said ≡ printedOn room text
     unfolding replayed
     page-long {places} e long f = rw (page-wide, e, f, enough-room text places long) refl

@@ -1,6 +1,8 @@
--- Document 01, 'Trace program': the memory that a trace is run on.
+-- Document 01, 'Trace program', with document 02, Ask 5, on banks: the memory that a trace is run on.
 -- Assumes nothing.
 use Prim.Native.Nat.{ℕ, _+_, _*_}
+use mathlib.Core.Bool.{Bool, _&&_}
+use lib.Dec.{leb}
 use lib.ListN.{replicate}
 use Rattle.geometry.specs.declared.Settings.{Settings}
 use Rattle.engine.specs.State.{State}
@@ -10,6 +12,10 @@ use Rattle.trace_steps.specs.Steps.{newControl}
 abbrev pub storeBytes : Settings → ℕ
 storeBytes S = (S .n + S .q) * S .w
 
+-- 'Tracker buffers hold B × K entries' (document 02, Ask 5)
+abbrev pub trackerEntries : Settings → ℕ
+trackerEntries S = S .b * S .k
+
 -- 'store .. all zero at start'; the rest is written by set-up
 abbrev pub lent : Settings → State
 lent S =
@@ -17,8 +23,8 @@ lent S =
       store = replicate (storeBytes S) 0;
       forward = replicate (S .n) 0;
       reverse = replicate (S .q) 0;
-      rows = replicate (S .k) 0;
-      counts = replicate (S .k) 0;
+      rows = replicate (trackerEntries S) 0;
+      counts = replicate (trackerEntries S) 0;
       control = newControl;
     }
 
@@ -26,12 +32,17 @@ lent S =
 abbrev pub mostStore : ℕ
 mostStore = 32768
 
--- the most that the ranges of N, Q and K allow
+-- 'K × B above 4,096 prints `trace refused`' (document 02, Ask 5)
+abbrev pub mostEntries : ℕ
+mostEntries = 4096
+
+-- .., 'judged with the store's size'
+abbrev pub memoryFits : Settings → Bool
+memoryFits S = leb (storeBytes S) mostStore && leb (trackerEntries S) mostEntries
+
+-- the most that the ranges of N and Q allow
 abbrev pub mostRows : ℕ
 mostRows = 60000
 
 abbrev pub mostSlots : ℕ
 mostSlots = 5500
-
-abbrev pub mostEntries : ℕ
-mostEntries = 4096

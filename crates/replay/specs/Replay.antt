@@ -1,4 +1,4 @@
--- Document 01, 'Trace program': from the bytes of a trace file to the bytes printed.
+-- Document 01, 'Trace program', with document 02, Asks 1 and 5: from the bytes of a trace file to the bytes printed.
 -- Assumes nothing.
 use Prim.Native.Nat.{ℕ, _+_, _*_}
 use mathlib.Core.Bool.{cond}
@@ -12,15 +12,11 @@ use Rattle.page.specs.Ascii.{ascii}
 use Rattle.lines.specs.Lines.{bare}
 use Rattle.line_text.specs.LineText.{lineBytes}
 use Rattle.trace_steps.specs.Steps.{lineRoom, runLines}
-use Rattle.replay.specs.Memory.{storeBytes, lent, mostStore}
+use Rattle.replay.specs.Memory.{lent, memoryFits}
 
 -- 'n (0 to 4,096)'
 abbrev pub mostSteps : ℕ
 mostSteps = 4096
-
--- room for the numbers of every trace: the steps, and eight before them
-abbrev pub numberRoom : ℕ
-numberRoom = 8 + mostSteps
 
 -- room for what any file prints: the lines of all steps, and one more
 abbrev pub pageRoom : ℕ
@@ -30,11 +26,12 @@ pageRoom = lineRoom * (mostSteps + 1)
 abbrev pub refusedLine : List ℕ
 refusedLine = ascii "trace refused\n"
 
--- 'the settings, then the store's size': 'Settings refused print `0`, the number, `- - -`, and nothing more'
+-- 'the settings, then the store's size': 'Settings refused print `0`, the number, `- - -`, and nothing more'; 'K × B above
+-- 4,096 prints `trace refused`, judged with the store's size' (document 02, Ask 5)
 unfoldable pub played : Settings → List ℕ → List ℕ
 played S steps =
     cond (eqb (settingsNumber S) 0)
-    (cond (leb (storeBytes S) mostStore) (runLines S (lent S) steps) refusedLine)
+    (cond (memoryFits S) (runLines S (lent S) steps) refusedLine)
     (lineBytes 0 (bare (settingsNumber S)))
 
 -- the same, where the form is refused too

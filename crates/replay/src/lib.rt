@@ -1,36 +1,31 @@
 // A trace file replayed on the engine: from the file's bytes to the bytes printed (document 01, 'Trace program'; document
-// 02, Ask 1).
+// 02, Asks 1 and 5).
 ghost use mathlib.Core.Path.{_≡_};
 ghost use mathlib.Core.Bool.{true};
 ghost use Prim.Native.Nat.{_+_, _*_, _≤_};
 ghost use lib.ListN.{length, take, replicate};
 ghost use Rattle.conditions.specs.Conditions.{rangesHold};
-ghost use Rattle.trace_file.specs.Form.{recorded, stepCount};
+ghost use Rattle.trace_file.specs.Form.{mostNumbers, recorded, StepsWithin};
 ghost use Rattle.trace_steps.specs.Steps.{lineRoom, runLines};
-ghost use Rattle.replay.specs.Memory.{storeBytes, lent, mostStore, mostRows, mostSlots, mostEntries};
-ghost use Rattle.replay.specs.Replay.{mostSteps, numberRoom, pageRoom};
-ghost use Rattle.replay.specs.Replay.{refusedLine, played, playedForm, printedOn};
+ghost use Rattle.replay.specs.Memory.{storeBytes, trackerEntries, lent, memoryFits};
+ghost use Rattle.replay.specs.Memory.{mostStore, mostRows, mostSlots, mostEntries};
+ghost use Rattle.replay.specs.Replay.{pageRoom, refusedLine, played, playedForm, printedOn};
 use geometry::Settings;
 use trace_file::Form;
 
 // The largest store of a trace, in bytes.
 const MOST_STORE: usize = 32768;
 
-// The most visible rows, slots and tracker entries that the settings allow.
+// The most tracker entries of a trace, of all banks together.
+const MOST_ENTRIES: usize = 4096;
+
+// The most visible rows and slots that the settings allow.
 const MOST_ROWS: usize = 60000;
 
 const MOST_SLOTS: usize = 5500;
 
-const MOST_ENTRIES: usize = 4096;
-
 // The most steps of a trace.
 const MOST_STEPS: usize = 4096;
-
-// Where the steps begin among the numbers of a trace.
-const FIRST_STEP: usize = 8;
-
-// The numbers of the longest trace.
-const MOST_NUMBERS: usize = FIRST_STEP + MOST_STEPS;
 
 // The longest line, in bytes.
 const LONGEST_LINE: usize = 105;
@@ -69,9 +64,10 @@ fn counts_buffer() -> [u32; MOST_ENTRIES]
     [0u32; MOST_ENTRIES]
 }
 
-// Makes set-up and every step on new memory with a store of `size` bytes, and prints their lines.
-fn on_new_memory(s: Settings, size: usize, steps: &[u32], page: &mut [u8]) -> usize
-    requires { ⌜ (rangesHold s ≡ true) × (size ≡ storeBytes s) × (size ≤ mostStore)
+// Makes set-up and every step on new memory with a store of `size` bytes and so many tracker entries, and prints their
+// lines.
+fn on_new_memory(s: Settings, size: usize, entries: usize, steps: &[u32], page: &mut [u8]) -> usize
+    requires { ⌜ (rangesHold s ≡ true) × (memoryFits s ≡ true) × (size ≡ storeBytes s) × (entries ≡ trackerEntries s)
         × (lineRoom * length (now steps) ≤ length (now page)) ⌝ }
     ensures short { λ r. ⌜ r ≤ length (now (page .entry)) ⌝ }
     ensures printed { λ r. ⌜ take r (now (page .exit)) ≡ runLines s (lent s) (now (steps .entry)) ⌝ }
@@ -83,15 +79,14 @@ fn on_new_memory(s: Settings, size: usize, steps: &[u32], page: &mut [u8]) -> us
     let mut counts = counts_buffer();
     let n = s.n as usize;
     let q = s.q as usize;
-    let k = s.k as usize;
     trace_steps::run(
         s,
         steps,
         &mut store[..size],
         &mut forward[..n],
         &mut reverse[..q],
-        &mut rows[..k],
-        &mut counts[..k],
+        &mut rows[..entries],
+        &mut counts[..entries],
         page,
     )
 }
@@ -105,7 +100,8 @@ pub fn put_refused(page: &mut [u8]) -> usize
     page::put_bytes(page, 0, b"trace refused\n")
 }
 
-// Plays a trace: its settings are judged, then the store's size, and then every step is made.
+// Plays a trace: its settings are judged, then the store's size and the number of tracker entries, and then every step is
+// made.
 fn play(s: Settings, steps: &[u32], page: &mut [u8]) -> usize
     requires { ⌜ lineRoom + lineRoom * length (now steps) ≤ length (now page) ⌝ }
     ensures short { λ r. ⌜ r ≤ length (now (page .entry)) ⌝ }
@@ -116,30 +112,36 @@ fn play(s: Settings, steps: &[u32], page: &mut [u8]) -> usize
         return line_text::put_line(page, 0, 0, lines::bare(number));
     }
     let size = ((s.n as usize) + (s.q as usize)) * (s.w as usize);
-    if MOST_STORE < size {
+    let entries = (s.b as usize) * (s.k as usize);
+    let fits = (size <= MOST_STORE) & (entries <= MOST_ENTRIES);
+    if !fits {
         return put_refused(page);
     }
-    on_new_memory(s, size, steps, page)
+    on_new_memory(s, size, entries, steps, page)
 }
 
 // Returns room for the numbers of the longest trace.
-fn number_buffer() -> [u32; MOST_NUMBERS]
-    ensures { λ r. ⌜ numberRoom ≡ length r ⌝ }
+fn number_buffer() -> [u32; trace_file::MOST_NUMBERS]
+    ensures { λ r. ⌜ mostNumbers ≡ length r ⌝ }
 {
-    [0u32; MOST_NUMBERS]
+    [0u32; trace_file::MOST_NUMBERS]
 }
 
-// Plays a file whose form was judged; its steps stand in the list from index 8 on.
+// Plays a file whose form was judged; its numbers stand in the list.
 fn play_form(form: Form, numbers: &[u32], page: &mut [u8]) -> usize
-    requires { ⌜ (stepCount form ≤ mostSteps) × (numberRoom ≡ length (now numbers)) × (pageRoom ≤ length (now page)) ⌝ }
+    requires { ⌜ StepsWithin form × (mostNumbers ≡ length (now numbers)) × (pageRoom ≤ length (now page)) ⌝ }
     ensures short { λ r. ⌜ r ≤ length (now (page .entry)) ⌝ }
     ensures printed { λ r. ⌜ take r (now (page .exit)) ≡ playedForm (recorded form (now (numbers .entry))) ⌝ }
 {
     match form {
         Form::Refused => put_refused(page),
-        Form::Trace(s, count) => {
-            let end = FIRST_STEP + count;
-            play(s, &numbers[FIRST_STEP..end], page)
+        Form::Trace {
+            settings,
+            first,
+            count,
+        } => {
+            let end = first + count;
+            play(settings, &numbers[first..end], page)
         }
     }
 }

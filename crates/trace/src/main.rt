@@ -1,5 +1,5 @@
 // Replays the trace file on standard input, and prints its lines on standard output (document 01, 'Trace program'; document
-// 02, Ask 1). A program has no exit status of its own: what cannot be read or written is said on standard error.
+// 02, Asks 1 and 5). A program has no exit status of its own: what cannot be read or written is said on standard error.
 ghost use mathlib.Core.Path.{_≡_};
 ghost use Prim.Native.Nat.{_≤_};
 ghost use lib.ListN.{length, take};

@@ -2,7 +2,7 @@
 use Prim.Native.Nat.{ℕ, _<_, _≤_}
 use native.Mathlib.Omega.{arith}
 use mathlib.Core.Path.{_≡_, ap}
-use mathlib.Core.Logic.{inl, inr}
+use mathlib.Core.Logic.{_⊎_, inl, inr}
 use mathlib.Core.Bool.{true, false, _&&_}
 use mathlib.Core.List.{List}
 use mathlib.Core.Option.{none}
@@ -11,8 +11,8 @@ use Rattle.geometry.proofs.Cases.{split}
 use Rattle.geometry.proofs.Tests.{and-right}
 use Rattle.number_text.specs.Numbers.{blank, numbers, readable}
 use Rattle.number_text.proofs.Blank.{blank-no-numbers}
-use Rattle.trace_file.specs.Form.{fileFits, traceIn, isEmptyTrace}
-use Rattle.trace_file.proofs.Sections.{not-counted}
+use Rattle.trace_file.specs.Form.{stepsAt, fileFits, traceIn, isEmptyTrace}
+use Rattle.trace_file.proofs.Sections.{one-section, fewer-than-eight}
 
 module _ (text : List ℕ) where
   pub empty-no-numbers : isEmptyTrace text ≡ true → length (numbers text) ≡ 0
@@ -23,11 +23,11 @@ module _ (text : List ℕ) where
   pub has-number : 1 ≤ length (numbers text) → isEmptyTrace text ≡ false
   has-number h = elim (split (isEmptyTrace text)) [ inl e ↦ absurd (omega (arith, empty-no-numbers e)) | inr e ↦ e ]
 
-  -- two sections have at least eight numbers
-  pub few-numbers : length (numbers text) < 8 → traceIn text ≡ none
+  -- no second section
+  pub few-numbers : (length (numbers text) < 8) ⊎ (length (numbers text) < stepsAt (numbers text)) → traceIn text ≡ none
   unfolding traceIn
   few-numbers h =
       elim (split (fileFits text && readable text)) [
-        | inl e ↦ rw e (not-counted (numbers text) (λ n. omega arith))
+        | inl e ↦ rw e (elim h [ inl k ↦ fewer-than-eight (numbers text) k | inr k ↦ one-section (numbers text) k ])
         | inr e ↦ rw e
       ]

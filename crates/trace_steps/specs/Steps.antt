@@ -7,14 +7,12 @@ use lib.Dec.{eqb}
 use lib.ListN.{replicate}
 use Rattle.geometry.specs.declared.Control.{Control}
 use Rattle.geometry.specs.declared.Settings.{Settings}
-use Rattle.geometry.specs.Entry.{empty}
+use Rattle.banks.specs.Banks.{mostBanks}
 use Rattle.engine.specs.State.{State}
 use Rattle.engine.specs.Calls.{setUp}
 use Rattle.history.specs.Run.{read, Call, access, tick, inspect, Answer, Event, step, events}
 use Rattle.lines.specs.declared.Line.{Line}
-use Rattle.lines.specs.declared.Figure.{Figure}
-use Rattle.lines.specs.declared.Figure.the-variants.{Dash, Number}
-use Rattle.lines.specs.Lines.{bare}
+use Rattle.lines.specs.Lines.{accessLine, bare}
 use Rattle.line_text.specs.LineText.{lineBytes}
 
 -- ---- what the memory has room for
@@ -39,17 +37,11 @@ isAccess (access a) = true
 isAccess tick = false
 isAccess (inspect r) = false
 
--- '`-` for none'
-abbrev pub figureOf : ℕ → Figure
-figureOf x = cond (eqb x empty) Dash (Number x)
-
 -- the line of a step; '`-` .. for all three on a tick or refusal'
 abbrev pub lineOf : Event → Line
 lineOf e =
     let a : Answer = e .answer in
-    cond (isAccess (e .call) && eqb (a .number) 0)
-    (record { number = 0; place = Number (a .place); slot = figureOf (a .slot); row = figureOf (a .row) })
-    (bare (a .number))
+    cond (isAccess (e .call) && eqb (a .number) 0) (accessLine (a .place) (a .slot) (a .row)) (bare (a .number))
 
 -- a step as `trace_steps::step` gives it: the memory after it, and its line
 pub record StepLine : Type 0 where
@@ -82,6 +74,6 @@ linesFrom i (e ∷ es) = lineBytes i (lineOf e) ++ linesFrom (suc i) es
 abbrev pub runLines : Settings → State → List ℕ → List ℕ
 runLines S σ steps = linesFrom 1 (stepsFrom S ((setUp S σ) .state) steps)
 
--- the control record that set-up gets
+-- the control record that set-up gets; spill, acts: by bank
 abbrev pub newControl : Control
-newControl = record { head = 0; passed = 0; spill = 0; acts = 0 }
+newControl = record { head = 0; passed = 0; spill = replicate mostBanks 0; acts = replicate mostBanks 0 }

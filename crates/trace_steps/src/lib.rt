@@ -56,7 +56,7 @@ fn step(
     }
     let mut buffer = row_buffer();
     let w = s.w as usize;
-    let read = access::read(
+    let read = rank::read_core(
         control,
         s,
         x,
@@ -67,10 +67,10 @@ fn step(
         rows,
         counts,
     );
-    let answer = read.answer;
+    let outcome = read.outcome;
     let next = read.control;
     Stepped {
-        line: lines::line_of_access(answer),
+        line: lines::line_of_access(outcome),
         control: next,
     }
 }

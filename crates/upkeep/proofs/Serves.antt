@@ -33,12 +33,15 @@ module _ (S : Settings) (σ : State) (x : ℕ) where
   set-up-refused e n = rw e (noted-refused S σ (cleared S σ) (setUpNumber S σ) (λ z. n (e ∙ z)))
 
   pub set-up-done : x ≡ setUpNumber S σ → x ≡ 0 → (forward reverse rows counts : List ℕ)
-      → forward ≡ replicate (length (σ .forward)) empty → reverse ≡ replicate (length (σ .reverse)) empty → rows ≡ replicate (length (σ .rows)) empty → counts ≡ replicate (length (σ .counts)) 0
-      → notedOf (stateOf (σ .store) forward reverse rows counts (record { head = 0; passed = 0; spill = replicate mostBanks 0; acts = replicate mostBanks 0 })) 0 ≡ setUp S σ
+      → forward ≡ replicate (length (σ .forward)) empty → reverse ≡ replicate (length (σ .reverse)) empty
+      → rows ≡ replicate (length (σ .rows)) empty → counts ≡ replicate (length (σ .counts)) 0
+      → notedOf (stateOf (σ .store) forward reverse rows counts
+      (record { head = 0; passed = 0; spill = replicate mostBanks 0; acts = replicate mostBanks 0 })) 0 ≡ setUp S σ
   unfolding setUp
   set-up-done e z forward reverse rows counts ef er eo ec =
       let X = lengths-facts S (lengthsOf σ) (fit S σ (sym e ∙ z) .lengths) in
-      rw (filled empty ef (X .forward), filled empty er (X .reverse), filled empty eo (X .rows), filled 0 ec (X .counts)) (noted-done S σ (cleared S σ) (setUpNumber S σ) (sym e ∙ z))
+      rw (filled empty ef (X .forward), filled empty er (X .reverse), filled empty eo (X .rows), filled 0 ec (X .counts))
+      (noted-done S σ (cleared S σ) (setUpNumber S σ) (sym e ∙ z))
 
   -- past 1 to 4 there are at most as many banks as the record has places for
   pub tick-banks : x ≡ tickNumber S σ → x ≡ 0 → S .b ≤ mostBanks
@@ -48,9 +51,11 @@ module _ (S : Settings) (σ : State) (x : ℕ) where
   unfolding tick
   tick-refused e n = rw e (noted-refused S σ (ticked S σ) (tickNumber S σ) (λ z. n (e ∙ z)))
 
-  pub tick-done : x ≡ tickNumber S σ → x ≡ 0 → (rows counts spill acts : List ℕ) → rows ≡ replicate (length (σ .rows)) empty → counts ≡ replicate (length (σ .counts)) 0
+  pub tick-done : x ≡ tickNumber S σ → x ≡ 0 → (rows counts spill acts : List ℕ)
+      → rows ≡ replicate (length (σ .rows)) empty → counts ≡ replicate (length (σ .counts)) 0
       → spill ≡ zeroBelow (S .b) (σ .control .spill) → acts ≡ zeroBelow (S .b) (σ .control .acts)
-      → notedOf (stateOf (σ .store) (σ .forward) (σ .reverse) rows counts (record { head = σ .control .head; passed = 0; spill = spill; acts = acts })) 0 ≡ tick S σ
+      → notedOf (stateOf (σ .store) (σ .forward) (σ .reverse) rows counts
+      (record { head = σ .control .head; passed = 0; spill = spill; acts = acts })) 0 ≡ tick S σ
   unfolding tick
   tick-done e z rows counts spill acts eo ec es ea =
       let X = lengths-facts S (lengthsOf σ) (tick-facts S σ (sym e ∙ z) .0 .lengths) in

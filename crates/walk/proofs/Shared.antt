@@ -68,7 +68,8 @@ module _ {M : Type 1} (𝓤 : URA M) (H : Heap 𝓤) (A : Atoms 𝓤) (W : Given
       let Te : Terms 𝓤 = entry-of F 𝓤 kept Ensured in
       let b : ℕ = a .0 .ptr .0 in
       let o : ℕ = a .0 .ptr .1 in
-      looked T h b o ! tt (λ s was. let good = spelled-fits 𝓤 H A W (struct (T .X) (T .laws)) h was in move ! (7 ∷ 0 ∷ []) $
+      looked T h b o ! tt (λ s was. let good = spelled-fits 𝓤 H A W (struct (T .X) (T .laws)) h was in
+      move ! (7 ∷ 0 ∷ []) $
       -- [the locals; a share of the record's cell; what it owns; the open borrow; the borrow; its value; the tokens]
       to-call W C Λ E ok z good $ move ! (1 ∷ 2 ∷ 3 ∷ []) $
       shuts ! tt (row (T .X)) s h (w F z ∷ []) b o $
@@ -77,7 +78,8 @@ module _ {M : Type 1} (𝓤 : URA M) (H : Heap 𝓤) (A : Atoms 𝓤) (W : Given
       over-call W C Λ E ok z kept Ensures fm core known (qs .1) good (λ r ws is.
       let v : Val = L (κs .1) .val r in
       -- [the locals; what the result owns; the tokens; the last values; what the core ensures; the token of the borrow]
-      ends ! E v (put 0 v (at-call F z)) (ok .result (κs .1) r (spelled-fits 𝓤 H A W (L (κs .1)) r is .0)) (content-put 0 v (at-call F z)) (
+      ends ! E v (put 0 v (at-call F z)) (ok .result (κs .1) r (spelled-fits 𝓤 H A W (L (κs .1)) r is .0))
+      (content-put 0 v (at-call F z)) (
       move ! (3 ∷ []) $ use1 W (raw (Te .Ensures κs a r (tt, ws .1))) (follows κs a r ws) $
       move ! (3 ∷ []) $ fsplit ! $ drop ! $ nothing ! $ fjoin ! $ keep ! (4 ∷ 3 ∷ 2 ∷ 0 ∷ 1 ∷ []) $ join ! $
       by ! (gives 𝓤 H A Te κs qs a W v r (tt, ws .1)))))

@@ -30,15 +30,20 @@ mul-t14 : tie.Need-mul-t14
 mul-t14 c =
     let a = c .before .before .before .before .before .before .before .before .before .args in
     let σ = stateOf (a .store .now) (a .forward .now) (a .reverse .now) (a .rows .now) (a .counts .now) (a .control) in
-    omega
-    (arith, part-inside (a .s) σ (a .row) (c .before .before .before .inspect-number .result) (c .before .before .before .inspect-number .ensures) (c .before .before .if1 .left) (c .before .place-of .result) (c .before .place-of .ensures))
+    omega (
+      arith,
+      part-inside (a .s) σ (a .row) (c .before .before .before .inspect-number .result)
+          (c .before .before .before .inspect-number .ensures) (c .before .before .if1 .left)
+          (c .before .place-of .result) (c .before .place-of .ensures),
+    )
 
 returns-2 : tie.Need-returns-2
 returns-2 c =
     let a = c .before .before .before .before .before .before .before .before .before .args in
     let σ = stateOf (a .store .now) (a .forward .now) (a .reverse .now) (a .rows .now) (a .counts .now) (a .control) in
-    span-row (a .s) σ (a .row) (c .before .before .before .inspect-number .result) (c .before .before .before .inspect-number .ensures)
-    (c .before .before .if1 .left) (c .before .place-of .result) (c .before .place-of .ensures) _ refl
+    let n = c .before .before .before .inspect-number in
+    let p = c .before .place-of in
+    span-row (a .s) σ (a .row) (n .result) (n .ensures) (c .before .before .if1 .left) (p .result) (p .ensures) _ refl
 
 pub inspect-span-spec : {M : Type 1} → statement M
 inspect-span-spec =

@@ -63,7 +63,8 @@ returns c =
     let t = first c in
     let b = begun t in
     let a = b .args in
-    first-bank (read (a .s) (lent b) (a .row) (a .buffer .now)) (a .control) (t .read .result) (c .if1 .taken) (t .read .ensures .1)
+    first-bank (read (a .s) (lent b) (a .row) (a .buffer .now)) (a .control) (t .read .result)
+    (c .if1 .taken) (t .read .ensures .1)
 
 same-length-7 : tie.Need-same-length-7
 same-length-7 c = other (c .before .before .before .before) .read .kept .1 .1 .1 .0

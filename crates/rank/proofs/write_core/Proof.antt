@@ -60,7 +60,8 @@ returns c =
     let t = first c in
     let b = begun t in
     let a = b .args in
-    first-bank (write (a .s) (lent b) (a .row) (a .column) (a .bytes .now)) (a .control) (t .write .result) (c .if1 .taken) (t .write .ensures .1)
+    first-bank (write (a .s) (lent b) (a .row) (a .column) (a .bytes .now)) (a .control) (t .write .result)
+    (c .if1 .taken) (t .write .ensures .1)
 
 same-length-6 : tie.Need-same-length-6
 same-length-6 c = other (c .before .before .before .before) .write .kept .1 .1 .1 .1 .1 .0

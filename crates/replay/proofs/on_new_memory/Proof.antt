@@ -11,7 +11,7 @@ abbrev begun : tie.After-counts-buffer → tie.Start
 begun p = p .before .before .before .before .before .before .before
 
 abbrev buffers : tie.After-run → tie.After-counts-buffer
-buffers t = t .before .before .before .before .before .before .before .before .before .before
+buffers t = t .before .before .before .before .before .before .before .before .before
 
 -- ---- what they know
 
@@ -21,13 +21,14 @@ memory : (p : tie.After-counts-buffer) →
     let store = p .before .before .before .before .store-buffer .result in
     let forward = p .before .before .before .forward-buffer .result in
     let reverse = p .before .before .reverse-buffer .result in
-    Memory (a .s) (a .size) store forward reverse (p .before .rows-buffer .result) (p .counts-buffer .result)
+    Memory (a .s) (a .size) (a .entries) store forward reverse (p .before .rows-buffer .result) (p .counts-buffer .result)
 memory p =
     let pre = begun p .pre in
     let store = p .before .before .before .before .store-buffer .ensures in
     let forward = p .before .before .before .forward-buffer .ensures in
     let reverse = p .before .before .reverse-buffer .ensures in
-    new-memory (pre .0) (pre .2) store forward reverse (p .before .rows-buffer .ensures) (p .counts-buffer .ensures)
+    let rows = p .before .rows-buffer .ensures in
+    new-memory (pre .2) (pre .3) (pre .0) (pre .1) store forward reverse rows (p .counts-buffer .ensures)
 
 -- ---- the needs
 
@@ -52,43 +53,40 @@ cast-n c = search needs
 cast-q : tie.Need-cast-q
 cast-q c = search needs
 
-cast-k : tie.Need-cast-k
-cast-k c = search needs
-
 array-borrow-prefix-store : tie.Need-array-borrow-prefix-store
-array-borrow-prefix-store c = memory (c .before .before .before) .store-part .fits
+array-borrow-prefix-store c = memory (c .before .before) .store-part .fits
 
 slice-aggregate-run : tie.Need-slice-aggregate-run
-slice-aggregate-run c = memory (c .before .before .before .before) .store-part .long
+slice-aggregate-run c = memory (c .before .before .before) .store-part .long
 
 array-borrow-prefix-forward : tie.Need-array-borrow-prefix-forward
-array-borrow-prefix-forward c = memory (c .before .before .before .before) .forward-part .fits
+array-borrow-prefix-forward c = memory (c .before .before .before) .forward-part .fits
 
 slice-aggregate-run-2 : tie.Need-slice-aggregate-run-2
-slice-aggregate-run-2 c = memory (c .before .before .before .before .before) .forward-part .long
+slice-aggregate-run-2 c = memory (c .before .before .before .before) .forward-part .long
 
 array-borrow-prefix-reverse : tie.Need-array-borrow-prefix-reverse
-array-borrow-prefix-reverse c = memory (c .before .before .before .before .before) .reverse-part .fits
+array-borrow-prefix-reverse c = memory (c .before .before .before .before) .reverse-part .fits
 
 slice-aggregate-run-3 : tie.Need-slice-aggregate-run-3
-slice-aggregate-run-3 c = memory (c .before .before .before .before .before .before) .reverse-part .long
+slice-aggregate-run-3 c = memory (c .before .before .before .before .before) .reverse-part .long
 
 array-borrow-prefix-rows : tie.Need-array-borrow-prefix-rows
-array-borrow-prefix-rows c = memory (c .before .before .before .before .before .before) .rows-part .fits
+array-borrow-prefix-rows c = memory (c .before .before .before .before .before) .rows-part .fits
 
 slice-aggregate-run-4 : tie.Need-slice-aggregate-run-4
-slice-aggregate-run-4 c = memory (c .before .before .before .before .before .before .before) .rows-part .long
+slice-aggregate-run-4 c = memory (c .before .before .before .before .before .before) .rows-part .long
 
 array-borrow-prefix-counts : tie.Need-array-borrow-prefix-counts
-array-borrow-prefix-counts c = memory (c .before .before .before .before .before .before .before) .counts-part .fits
+array-borrow-prefix-counts c = memory (c .before .before .before .before .before .before) .counts-part .fits
 
 slice-aggregate-run-5 : tie.Need-slice-aggregate-run-5
-slice-aggregate-run-5 c = memory (c .before .before .before .before .before .before .before .before) .counts-part .long
+slice-aggregate-run-5 c = memory (c .before .before .before .before .before .before .before) .counts-part .long
 
 run-requires : tie.Need-run-requires
 run-requires c κs =
-    let b = begun (c .before .before .before .before .before .before .before .before .before) in
-    (ranges-facts (b .args .s) (b .pre .0) .w-high, b .pre .3)
+    let b = begun (c .before .before .before .before .before .before .before .before) in
+    (ranges-facts (b .args .s) (b .pre .0) .w-high, b .pre .4)
 
 same-length : tie.Need-same-length
 same-length c = c .before .before .before .before .before .before .before .run .kept .1 .1 .1 .1 .1 .1 .1 .0
@@ -97,8 +95,9 @@ returns : tie.Need-returns
 returns c =
     let t = c .before .before .before .before .before .before .before in
     let p = buffers t in
+    let b = begun p in
     let ran = t .run .ensures in
-    (ran .0, new-lines (begun p .args .steps .now) (memory p) (begun p .pre .1) (ran .1))
+    (ran .0, new-lines (b .pre .2) (b .pre .3) (b .args .steps .now) (memory p) (ran .1))
 
 pub on-new-memory-spec : {M : Type 1} → statement M
 on-new-memory-spec =
@@ -111,7 +110,6 @@ on-new-memory-spec =
     counts-buffer-requires
     cast-n
     cast-q
-    cast-k
     array-borrow-prefix-store
     slice-aggregate-run
     array-borrow-prefix-forward

@@ -1,22 +1,33 @@
--- `replay::play` meets its contract: the settings, the store's size, and then the steps. Assumes nothing.
+-- `replay::play` meets its contract: the settings, the size of the memory, and then the steps. Assumes nothing.
 use native.Mathlib.Omega.{arith}
 use mathlib.Core.Path.{_≡_, refl, sym, _∙_}
 use Rattle.engine.specs.Ladder.{settingsNumber}
-use Rattle.replay.proofs.Judging.{ranges-accepted, store-bound, settings-refused, store-refused, all-run}
+use mathlib.Core.Bool.{true}
 use borrow.Author.Needs.{needs}
+use borrow.Author.Tests.{not-true, not-false}
+use Rattle.replay.specs.Memory.{memoryFits}
+use Rattle.replay.proofs.Judging.{ranges-accepted, store-bound, entries-bound}
+use Rattle.replay.proofs.Judging.{settings-refused, memory-refused, all-run}
 use Rattle.replay.proofs.play.Statement.{statement}
 use Rattle.replay.proofs.play.Tie as tie
 
--- ---- the place that the needs look back to
+-- ---- the places that the needs look back to
 
 abbrev begun : tie.Else1 → tie.Start
 begun p = p .before .before .before .before
+
+abbrev judged : tie.Else2 → tie.Else1
+judged t = t .before .before .before .before .before .before
 
 -- ---- what they know
 
 -- the settings are accepted
 accepted : (p : tie.Else1) → settingsNumber (begun p .args .s) ≡ 0
 accepted p = sym (p .before .settings-number .ensures) ∙ p .if1 .left
+
+-- and the memory fits
+fits : (t : tie.Else2) → memoryFits (begun (judged t) .args .s) ≡ true
+fits t = not-false (memoryFits (begun (judged t) .args .s)) (t .if2 .left)
 
 -- ---- the needs
 
@@ -62,6 +73,17 @@ mul-size c =
     let p = c .before .before .before in
     record { fits = omega (arith, store-bound (begun p .args .s) (accepted p)) }
 
+cast-entries : tie.Need-cast-entries
+cast-entries c = search needs
+
+cast-entries-2 : tie.Need-cast-entries-2
+cast-entries-2 c = search needs
+
+mul-entries : tie.Need-mul-entries
+mul-entries c =
+    let p = c .before .before .before .before .before in
+    record { fits = omega (arith, entries-bound (begun p .args .s) (accepted p)) }
+
 put-refused-requires : tie.Need-put-refused-requires
 put-refused-requires c κs = search needs
 
@@ -71,27 +93,27 @@ same-length-2 c = c .before .before .put-refused .kept .0
 returns-2 : tie.Need-returns-2
 returns-2 c =
     let t = c .before .before .before .before in
-    let p = t .before .before .before .before in
+    let p = t .before .before .before .before .before .before in
     let a = begun p .args in
     let put = c .before .before .put-refused .ensures in
-    (put .0, put .1 ∙ store-refused (a .s) (a .steps .now) (accepted p) (t .if2 .taken))
+    let over = not-true (memoryFits (a .s)) (t .if2 .taken) in
+    (put .0, put .1 ∙ memory-refused (a .s) (a .steps .now) (accepted p) over)
 
 on-new-memory-requires : tie.Need-on-new-memory-requires
 on-new-memory-requires c κs =
-    let p = c .before .before .before .before .before in
-    let b = begun p in
-    (ranges-accepted (b .args .s) (accepted p), refl, c .before .if2 .left, omega (arith, b .pre))
+    let t = c .before in
+    let b = begun (judged t) in
+    (ranges-accepted (b .args .s) (accepted (judged t)), fits t, refl, refl, omega (arith, b .pre))
 
 same-length-3 : tie.Need-same-length-3
-same-length-3 c = c .before .before .on-new-memory .kept .1 .1 .1 .0
+same-length-3 c = c .before .before .on-new-memory .kept .1 .1 .1 .1 .0
 
 returns-3 : tie.Need-returns-3
 returns-3 c =
     let t = c .before .before .before .before in
-    let p = t .before .before .before .before in
-    let a = begun p .args in
+    let a = begun (judged t) .args in
     let ran = c .before .before .on-new-memory .ensures in
-    (ran .0, ran .1 ∙ all-run (a .s) (a .steps .now) (accepted p) (t .if2 .left))
+    (ran .0, ran .1 ∙ all-run (a .s) (a .steps .now) (accepted (judged t)) (fits t))
 
 pub play-spec : {M : Type 1} → statement M
 play-spec =
@@ -107,6 +129,9 @@ play-spec =
     add-size
     cast-size-3
     mul-size
+    cast-entries
+    cast-entries-2
+    mul-entries
     put-refused-requires
     same-length-2
     returns-2

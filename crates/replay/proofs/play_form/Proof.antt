@@ -1,20 +1,28 @@
 -- `replay::play_form` meets its contract: what the form says. Assumes nothing.
-use Prim.Native.Nat.{ℕ, _+_, _-_, _≤_}
+use Prim.Native.Nat.{ℕ, _+_, _-_}
 use native.Mathlib.Omega.{arith}
 use mathlib.Core.Path.{_∙_}
 use lib.ListN.{drop, length-take}
-use Rattle.replay.specs.Replay.{mostSteps}
+use Rattle.geometry.specs.declared.Settings.{Settings}
+use Rattle.trace_file.specs.declared.Form.the-variants.{Trace}
+use Rattle.trace_file.specs.Form.{StepsWithin}
 use Rattle.replay.proofs.Judging.{form-refused, form-played}
 use borrow.Author.Needs.{needs}
 use Rattle.replay.proofs.play_form.Statement.{statement}
 use Rattle.replay.proofs.play_form.Tie as tie
 
--- where the form is a trace: how many steps there are
-abbrev count : tie.After-known-told → ℕ
-count k = k .before .form .given .0 .1 .0
+-- where the form is a trace: its settings, where the steps begin, and how many there are
+abbrev settings : tie.After-known-told → Settings
+settings k = k .before .form .given .0 .0
 
-few : (k : tie.After-known-told) → count k ≤ mostSteps
-few k = rw (k .before .form .given .1) at (k .before .before .before .before .before .pre .0)
+abbrev first : tie.After-known-told → ℕ
+first k = k .before .form .given .0 .1 .0
+
+abbrev count : tie.After-known-told → ℕ
+count k = k .before .form .given .0 .1 .1 .0
+
+within : (k : tie.After-known-told) → StepsWithin (Trace (settings k) (first k) (count k))
+within k = rw (k .before .form .given .1) at (k .before .before .before .before .before .pre .0)
 
 enum-told : tie.Need-enum-told
 enum-told c = search needs
@@ -26,7 +34,10 @@ enum-known-form : tie.Need-enum-known-form
 enum-known-form c = search needs
 
 add-end : tie.Need-add-end
-add-end c = record { fits = omega (arith, few c) }
+add-end c = record { fits = omega (arith, within c) }
+
+mul-play : tie.Need-mul-play
+mul-play c = record { fits = omega (arith, within c) }
 
 sub-play : tie.Need-sub-play
 sub-play c = search needs
@@ -35,13 +46,13 @@ part-play-start : tie.Need-part-play-start
 part-play-start c = search needs
 
 part-play-end : tie.Need-part-play-end
-part-play-end c = omega (arith, few c, c .before .before .before .before .before .pre .1)
+part-play-end c = omega (arith, within c, c .before .before .before .before .before .pre .1)
 
 play-requires : tie.Need-play-requires
 play-requires c κs =
     let k = c .before .before in
     let b = k .before .before .before .before .before in
-    omega (arith, few k, b .pre .2, length-take (8 + count k - 8) (drop 8 (b .args .numbers .now)))
+    omega (arith, within k, b .pre .2, length-take (first k + count k - first k) (drop (first k) (b .args .numbers .now)))
 
 same-length : tie.Need-same-length
 same-length c = c .before .before .put-refused .kept .0
@@ -71,6 +82,7 @@ play-form-spec =
     put-refused-requires
     enum-known-form
     add-end
+    mul-play
     sub-play
     part-play-start
     part-play-end

@@ -5,7 +5,7 @@ use mathlib.Core.Path.{sym, ap, _∙_}
 use lib.ListN.{length, take}
 use Rattle.number_text.specs.declared.Numbers.{Numbers}
 use Rattle.number_text.specs.Numbers.{listed}
-use Rattle.trace_file.proofs.Sections.{no-room, too-long, none-read, some-read}
+use Rattle.trace_file.proofs.Sections.{no-steps, no-room, too-long, none-read, some-read}
 use borrow.Author.Needs.{needs}
 use Rattle.trace_file.proofs.parse.Statement.{statement}
 use Rattle.trace_file.proofs.parse.Tie as tie
@@ -13,12 +13,12 @@ use Rattle.trace_file.proofs.parse.Tie as tie
 returns : tie.Need-returns
 returns c =
     let a = c .before .before .before .args in
-    (sym (no-room (a .text .now) (length (a .numbers .now)) (c .if1 .taken)), omega arith)
+    (sym (no-room (a .text .now) (length (a .numbers .now)) (c .if1 .taken)), no-steps)
 
 returns-2 : tie.Need-returns-2
 returns-2 c =
     let a = c .before .before .before .before .args in
-    (sym (too-long (a .text .now) (length (a .numbers .now)) (c .before .if1 .left) (c .if2 .taken)), omega arith)
+    (sym (too-long (a .text .now) (length (a .numbers .now)) (c .before .if1 .left) (c .if2 .taken)), no-steps)
 
 read-numbers-requires : tie.Need-read-numbers-requires
 read-numbers-requires c κs = search needs
@@ -42,10 +42,11 @@ returns-3 : tie.Need-returns-3
 returns-3 c =
     let t = c .before .before .before .before in
     let a = t .before .before .before .before .before .before .args in
-    let told = ap (λ (r : Numbers). listed r (t .read-numbers .last .1 .0)) (c .enum-told .given .1) in (
-      sym (none-read (a .text .now) (length (a .numbers .now)) (t .before .before .before .if1 .left) (t .before .before .if2 .left) (sym told ∙ t .read-numbers .ensures .0)),
-      omega arith,
-    )
+    let told = ap (λ (r : Numbers). listed r (t .read-numbers .last .1 .0)) (c .enum-told .given .1) in
+    let wide = t .before .before .before .if1 .left in
+    let short = t .before .before .if2 .left in
+    let none = none-read (a .text .now) (length (a .numbers .now)) wide short (sym told ∙ t .read-numbers .ensures .0) in
+    (sym none, no-steps)
 
 same-length-2 : tie.Need-same-length-2
 same-length-2 c = search needs
@@ -55,12 +56,12 @@ returns-4 c =
     let t = c .before .before .before .before .before .before .before in
     let a = t .before .before .before .before .before .before .args in
     let count = c .before .before .before .found .given in
-    let told = ap (λ (r : Numbers). listed r (t .read-numbers .last .1 .0)) (count .1) in (
-      c .sections-of .ensures .0
-          ∙ sym (some-read (a .text .now) (length (a .numbers .now)) (t .before .before .before .if1 .left) (t .before .before .if2 .left)
-          (take (count .0 .0) (t .read-numbers .last .1 .0)) (sym told ∙ t .read-numbers .ensures .0)),
-      c .sections-of .ensures .1,
-    )
+    let told = ap (λ (r : Numbers). listed r (t .read-numbers .last .1 .0)) (count .1) in
+    let wide = t .before .before .before .if1 .left in
+    let short = t .before .before .if2 .left in
+    let list = take (count .0 .0) (t .read-numbers .last .1 .0) in
+    let some = some-read (a .text .now) (length (a .numbers .now)) wide short list (sym told ∙ t .read-numbers .ensures .0) in
+    (c .sections-of .ensures .0 ∙ sym some, c .sections-of .ensures .1)
 
 pub parse-spec : {M : Type 1} → statement M
 parse-spec =

@@ -1,77 +1,120 @@
 -- `trace_file::sections_of` meets its contract: one law of `sections` for each return. Assumes nothing.
+use Prim.Native.Nat.{_+_, _<_, _≤_}
 use native.Mathlib.Omega.{arith}
-use mathlib.Core.Path.{sym}
+use mathlib.Core.Path.{_≡_, sym}
+use mathlib.Core.Bool.{true}
 use borrow.Author.Needs.{needs}
 use borrow.Author.Tests.{not-true, not-false}
-use Rattle.trace_file.proofs.Sections.{formed, formed-within, too-few, not-formed, well-formed}
+use Rattle.trace_file.specs.Form.{firstCount, secondCount, stepsAt, isFirstCount}
+use Rattle.trace_file.proofs.Sections.{first-least, first-most, counted, counted-within}
+use Rattle.trace_file.proofs.Sections.{no-steps, no-numbers, first-refused, too-few, not-formed, well-formed}
 use Rattle.trace_file.proofs.sections_of.Statement.{statement}
 use Rattle.trace_file.proofs.sections_of.Tie as tie
 
+-- ---- the place that the needs look back to
+
+abbrev begun : tie.Else2 → tie.Start
+begun p = p .before .before .before .before
+
+-- ---- what they know
+
+-- the first count is taken
+first : (p : tie.Else2) → isFirstCount (firstCount (begun p .args .numbers .now)) ≡ true
+first p = not-false (isFirstCount (firstCount (begun p .args .numbers .now))) (p .if2 .left)
+
+first-few : (p : tie.Else2) → stepsAt (begun p .args .numbers .now) ≤ 9
+first-few p = omega (arith, first-most (firstCount (begun p .args .numbers .now)) (first p))
+
+-- the second count is a 32-bit number
+second-fits : (q : tie.After-shared-slice-known3) → secondCount (begun (q .before .before) .args .numbers .now) < 4294967296
+second-fits q = omega (arith, q .shared-slice-known3 .given (firstCount (begun (q .before .before) .args .numbers .now) + 1))
+
+-- ---- the needs
+
 returns : tie.Need-returns
 returns c =
-    let a = c .before .args in
-    (sym (too-few (a .numbers .now) (a .count) (c .before .pre) (c .if1 .taken)), omega arith)
+    let b = c .before .before in
+    (sym (no-numbers (b .args .numbers .now) (b .args .count) (b .pre) (c .if1 .taken)), no-steps)
+
+shared-slice-read-settings : tie.Need-shared-slice-read-settings
+shared-slice-read-settings c = search needs
+
+cast-settings : tie.Need-cast-settings
+cast-settings c = omega (arith, c .shared-slice-known2 .given 0)
+
+returns-2 : tie.Need-returns-2
+returns-2 c =
+    let b = c .before .before .before .before in
+    let a = b .args in
+    let e = not-true (isFirstCount (firstCount (a .numbers .now))) (c .if2 .taken) in
+    (sym (first-refused (a .numbers .now) (a .count) (b .pre) (c .before .before .if1 .left) e), no-steps)
+
+add-first : tie.Need-add-first
+add-first c = omega (arith, first-few c)
+
+returns-3 : tie.Need-returns-3
+returns-3 c =
+    let p = c .before in
+    let b = begun p in
+    let a = b .args in
+    (sym (too-few (a .numbers .now) (a .count) (b .pre) (p .before .before .if1 .left) (c .if3 .taken)), no-steps)
+
+add-steps : tie.Need-add-steps
+add-steps c = search needs
+
+mul-steps : tie.Need-mul-steps
+mul-steps c = search needs
 
 shared-slice-read-steps : tie.Need-shared-slice-read-steps
 shared-slice-read-steps c = search needs
 
 cast-steps : tie.Need-cast-steps
-cast-steps c = omega (arith, c .shared-slice-known .given 7)
+cast-steps c = omega (arith, second-fits c)
 
-shared-slice-read-has-sections : tie.Need-shared-slice-read-has-sections
-shared-slice-read-has-sections c = search needs
+add-has-steps : tie.Need-add-has-steps
+add-has-steps c = omega (arith, second-fits c, first-few (c .before .before))
 
-add-has-sections : tie.Need-add-has-sections
-add-has-sections c = omega (arith, c .shared-slice-known2 .given 7)
+returns-4 : tie.Need-returns-4
+returns-4 c =
+    let q = c .before .before in
+    let p = q .before in
+    let b = begun p in
+    let a = b .args in
+    let e = not-true (counted (a .numbers .now) (a .count)) (c .if4 .taken) in
+    let none = not-formed (a .numbers .now) (a .count) (b .pre) (p .before .before .if1 .left) (first p) (q .if3 .left) e in
+    (sym none, no-steps)
 
-returns-2 : tie.Need-returns-2
-returns-2 c =
-    let start = c .before .before .before .before in
-    let a = start .args in
-    let e = not-true (formed (a .numbers .now) (a .count)) (c .if2 .taken) in
-    (sym (not-formed (a .numbers .now) (a .count) (start .pre) (c .before .before .before .if1 .left) e), omega arith)
+settings-of-requires : tie.Need-settings-of-requires
+settings-of-requires c κs =
+    let p = c .before .before .before in
+    let b = begun p in
+    omega (arith, first-least (firstCount (b .args .numbers .now)) (first p), c .before .before .if3 .left, b .pre)
 
-shared-slice-read-t7 : tie.Need-shared-slice-read-t7
-shared-slice-read-t7 c = search needs
-
-shared-slice-read-t15 : tie.Need-shared-slice-read-t15
-shared-slice-read-t15 c = search needs
-
-shared-slice-read-t17 : tie.Need-shared-slice-read-t17
-shared-slice-read-t17 c = search needs
-
-shared-slice-read-t19 : tie.Need-shared-slice-read-t19
-shared-slice-read-t19 c = search needs
-
-shared-slice-read-t21 : tie.Need-shared-slice-read-t21
-shared-slice-read-t21 c = search needs
-
-shared-slice-read-t23 : tie.Need-shared-slice-read-t23
-shared-slice-read-t23 c = search needs
-
-returns-3 : tie.Need-returns-3
-returns-3 c =
-    let start = c .before .before .before .before .before .before .before .before .before .before in
-    let a = start .args in
-    let e = not-false (formed (a .numbers .now) (a .count)) (c .before .before .before .before .before .before .if2 .left) in (
-      sym (well-formed (a .numbers .now) (a .count) (start .pre) (c .before .before .before .before .before .before .before .before .before .if1 .left) e),
-      formed-within (a .numbers .now) (a .count) e,
-    )
+returns-5 : tie.Need-returns-5
+returns-5 c =
+    let q = c .before .before .before in
+    let p = q .before in
+    let b = begun p in
+    let a = b .args in
+    let e = not-false (counted (a .numbers .now) (a .count)) (c .before .if4 .left) in
+    let said = well-formed (a .numbers .now) (a .count) (b .pre) (p .before .before .if1 .left) (first p) (q .if3 .left) e in
+    (rw (c .settings-of .ensures) (sym said), (first-few p, counted-within (a .numbers .now) (a .count) e))
 
 pub sections-of-spec : {M : Type 1} → statement M
 sections-of-spec =
     tie.close
     (tie.spec
     returns
+    shared-slice-read-settings
+    cast-settings
+    returns-2
+    add-first
+    returns-3
+    add-steps
+    mul-steps
     shared-slice-read-steps
     cast-steps
-    shared-slice-read-has-sections
-    add-has-sections
-    returns-2
-    shared-slice-read-t7
-    shared-slice-read-t15
-    shared-slice-read-t17
-    shared-slice-read-t19
-    shared-slice-read-t21
-    shared-slice-read-t23
-    returns-3)
+    add-has-steps
+    returns-4
+    settings-of-requires
+    returns-5)

@@ -15,8 +15,8 @@ ticked c = c .before .before .before .before .before .before
 abbrev begun-tick : tie.After-tick → tie.Start
 begun-tick t = t .before .before .before .before .before .before .before .before .before .before .before .before
 
-abbrev did-read : tie.After-line-of-access → tie.After-read
-did-read c = c .before .before .before .before .before .before .before .before .before .before .before .before .before
+abbrev did-read : tie.After-line-of-access → tie.After-read-core
+did-read c = c .before .before .before .before .before .before .before .before .before .before .before .before .before .before
 
 abbrev begun-read : tie.After-row-buffer → tie.Start
 begun-read p = p .before .before .before .before .before .before .before
@@ -73,29 +73,29 @@ cast-w c = search needs
 array-borrow-prefix-buffer : tie.Need-array-borrow-prefix-buffer
 array-borrow-prefix-buffer c = row (c .before) .fits
 
-slice-aggregate-read : tie.Need-slice-aggregate-read
-slice-aggregate-read c = row (c .before .before) .long
+slice-aggregate-read-core : tie.Need-slice-aggregate-read-core
+slice-aggregate-read-core c = row (c .before .before) .long
 
-read-requires : tie.Need-read-requires
-read-requires c κs = search needs
+read-core-requires : tie.Need-read-core-requires
+read-core-requires c κs = search needs
 
 line-of-access-requires : tie.Need-line-of-access-requires
 line-of-access-requires c κs = search needs
 
 same-length-6 : tie.Need-same-length-6
-same-length-6 c = did-read c .read .kept .1 .1 .1 .1 .0
+same-length-6 c = did-read c .read-core .kept .1 .1 .1 .1 .0
 
 same-length-7 : tie.Need-same-length-7
-same-length-7 c = did-read c .read .kept .1 .1 .1 .1 .1 .0
+same-length-7 c = did-read c .read-core .kept .1 .1 .1 .1 .1 .0
 
 same-length-8 : tie.Need-same-length-8
-same-length-8 c = did-read c .read .kept .1 .1 .1 .1 .1 .1 .0
+same-length-8 c = did-read c .read-core .kept .1 .1 .1 .1 .1 .1 .0
 
 same-length-9 : tie.Need-same-length-9
-same-length-9 c = did-read c .read .kept .1 .1 .1 .1 .1 .1 .1 .0
+same-length-9 c = did-read c .read-core .kept .1 .1 .1 .1 .1 .1 .1 .0
 
 same-length-10 : tie.Need-same-length-10
-same-length-10 c = did-read c .read .kept .1 .1 .1 .1 .1 .1 .1 .1 .0
+same-length-10 c = did-read c .read-core .kept .1 .1 .1 .1 .1 .1 .1 .1 .0
 
 returns-2 : tie.Need-returns-2
 returns-2 c =
@@ -103,7 +103,7 @@ returns-2 c =
     let p = t .before .before .before .before .before .before .before .before in
     let b = begun-read p in
     let a = b .args in
-    read-step (a .s) (σ b) (a .x) (p .before .if1 .left) (c .line-of-access .ensures) (row p .blank) (t .read .ensures)
+    read-step (a .s) (σ b) (a .x) (p .before .if1 .left) (c .line-of-access .ensures) (row p .blank) (t .read-core .ensures)
 
 pub step-spec : {M : Type 1} → statement M
 step-spec =
@@ -120,8 +120,8 @@ step-spec =
     row-buffer-requires
     cast-w
     array-borrow-prefix-buffer
-    slice-aggregate-read
-    read-requires
+    slice-aggregate-read-core
+    read-core-requires
     line-of-access-requires
     same-length-6
     same-length-7

@@ -28,44 +28,41 @@ element-copy-out-c c = search needs
 array-borrow-prefix-buffer : tie.Need-array-borrow-prefix-buffer
 array-borrow-prefix-buffer c = lent-fits _ _ (search needs)
 
-slice-aggregate-read : tie.Need-slice-aggregate-read
-slice-aggregate-read c = lent-long _ _ (search needs)
+slice-aggregate-read-core : tie.Need-slice-aggregate-read-core
+slice-aggregate-read-core c = lent-long _ _ (search needs)
 
 array-borrow-prefix-store : tie.Need-array-borrow-prefix-store
 array-borrow-prefix-store c = lent-fits _ _ (search needs)
 
-slice-aggregate-read-2 : tie.Need-slice-aggregate-read-2
-slice-aggregate-read-2 c = lent-long _ _ (search needs)
+slice-aggregate-read-core-2 : tie.Need-slice-aggregate-read-core-2
+slice-aggregate-read-core-2 c = lent-long _ _ (search needs)
 
 array-borrow-prefix-forward : tie.Need-array-borrow-prefix-forward
 array-borrow-prefix-forward c = lent-fits _ _ (search needs)
 
-slice-aggregate-read-3 : tie.Need-slice-aggregate-read-3
-slice-aggregate-read-3 c = lent-long _ _ (search needs)
+slice-aggregate-read-core-3 : tie.Need-slice-aggregate-read-core-3
+slice-aggregate-read-core-3 c = lent-long _ _ (search needs)
 
 array-borrow-prefix-reverse : tie.Need-array-borrow-prefix-reverse
 array-borrow-prefix-reverse c = lent-fits _ _ (search needs)
 
-slice-aggregate-read-4 : tie.Need-slice-aggregate-read-4
-slice-aggregate-read-4 c = lent-long _ _ (search needs)
+slice-aggregate-read-core-4 : tie.Need-slice-aggregate-read-core-4
+slice-aggregate-read-core-4 c = lent-long _ _ (search needs)
 
 array-borrow-prefix-rows : tie.Need-array-borrow-prefix-rows
 array-borrow-prefix-rows c = lent-fits _ _ (search needs)
 
-slice-aggregate-read-5 : tie.Need-slice-aggregate-read-5
-slice-aggregate-read-5 c = lent-long _ _ (search needs)
+slice-aggregate-read-core-5 : tie.Need-slice-aggregate-read-core-5
+slice-aggregate-read-core-5 c = lent-long _ _ (search needs)
 
 array-borrow-prefix-counts : tie.Need-array-borrow-prefix-counts
 array-borrow-prefix-counts c = lent-fits _ _ (search needs)
 
-slice-aggregate-read-6 : tie.Need-slice-aggregate-read-6
-slice-aggregate-read-6 c = lent-long _ _ (search needs)
+slice-aggregate-read-core-6 : tie.Need-slice-aggregate-read-core-6
+slice-aggregate-read-core-6 c = lent-long _ _ (search needs)
 
-read-requires : tie.Need-read-requires
-read-requires c κs = search needs
-
-numbers-of-requires : tie.Need-numbers-of-requires
-numbers-of-requires c κs = search needs
+read-core-requires : tie.Need-read-core-requires
+read-core-requires c κs = search needs
 
 placed-requires : tie.Need-placed-requires
 placed-requires c κs = search needs
@@ -85,18 +82,17 @@ read-spec =
     element-copy-out-k
     element-copy-out-c
     array-borrow-prefix-buffer
-    slice-aggregate-read
+    slice-aggregate-read-core
     array-borrow-prefix-store
-    slice-aggregate-read-2
+    slice-aggregate-read-core-2
     array-borrow-prefix-forward
-    slice-aggregate-read-3
+    slice-aggregate-read-core-3
     array-borrow-prefix-reverse
-    slice-aggregate-read-4
+    slice-aggregate-read-core-4
     array-borrow-prefix-rows
-    slice-aggregate-read-5
+    slice-aggregate-read-core-5
     array-borrow-prefix-counts
-    slice-aggregate-read-6
-    read-requires
-    numbers-of-requires
+    slice-aggregate-read-core-6
+    read-core-requires
     placed-requires
     returns)

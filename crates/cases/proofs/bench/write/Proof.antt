@@ -28,44 +28,41 @@ element-copy-out-c c = search needs
 array-share-prefix-bytes : tie.Need-array-share-prefix-bytes
 array-share-prefix-bytes c = lent-fits _ _ (search needs)
 
-slice-aggregate-write : tie.Need-slice-aggregate-write
-slice-aggregate-write c = lent-long _ _ (search needs)
+slice-aggregate-write-core : tie.Need-slice-aggregate-write-core
+slice-aggregate-write-core c = lent-long _ _ (search needs)
 
 array-borrow-prefix-store : tie.Need-array-borrow-prefix-store
 array-borrow-prefix-store c = lent-fits _ _ (search needs)
 
-slice-aggregate-write-2 : tie.Need-slice-aggregate-write-2
-slice-aggregate-write-2 c = lent-long _ _ (search needs)
+slice-aggregate-write-core-2 : tie.Need-slice-aggregate-write-core-2
+slice-aggregate-write-core-2 c = lent-long _ _ (search needs)
 
 array-borrow-prefix-forward : tie.Need-array-borrow-prefix-forward
 array-borrow-prefix-forward c = lent-fits _ _ (search needs)
 
-slice-aggregate-write-3 : tie.Need-slice-aggregate-write-3
-slice-aggregate-write-3 c = lent-long _ _ (search needs)
+slice-aggregate-write-core-3 : tie.Need-slice-aggregate-write-core-3
+slice-aggregate-write-core-3 c = lent-long _ _ (search needs)
 
 array-borrow-prefix-reverse : tie.Need-array-borrow-prefix-reverse
 array-borrow-prefix-reverse c = lent-fits _ _ (search needs)
 
-slice-aggregate-write-4 : tie.Need-slice-aggregate-write-4
-slice-aggregate-write-4 c = lent-long _ _ (search needs)
+slice-aggregate-write-core-4 : tie.Need-slice-aggregate-write-core-4
+slice-aggregate-write-core-4 c = lent-long _ _ (search needs)
 
 array-borrow-prefix-rows : tie.Need-array-borrow-prefix-rows
 array-borrow-prefix-rows c = lent-fits _ _ (search needs)
 
-slice-aggregate-write-5 : tie.Need-slice-aggregate-write-5
-slice-aggregate-write-5 c = lent-long _ _ (search needs)
+slice-aggregate-write-core-5 : tie.Need-slice-aggregate-write-core-5
+slice-aggregate-write-core-5 c = lent-long _ _ (search needs)
 
 array-borrow-prefix-counts : tie.Need-array-borrow-prefix-counts
 array-borrow-prefix-counts c = lent-fits _ _ (search needs)
 
-slice-aggregate-write-6 : tie.Need-slice-aggregate-write-6
-slice-aggregate-write-6 c = lent-long _ _ (search needs)
+slice-aggregate-write-core-6 : tie.Need-slice-aggregate-write-core-6
+slice-aggregate-write-core-6 c = lent-long _ _ (search needs)
 
-write-requires : tie.Need-write-requires
-write-requires c κs = search needs
-
-numbers-of-requires : tie.Need-numbers-of-requires
-numbers-of-requires c κs = search needs
+write-core-requires : tie.Need-write-core-requires
+write-core-requires c κs = search needs
 
 placed-requires : tie.Need-placed-requires
 placed-requires c κs = search needs
@@ -85,18 +82,17 @@ write-spec =
     element-copy-out-k
     element-copy-out-c
     array-share-prefix-bytes
-    slice-aggregate-write
+    slice-aggregate-write-core
     array-borrow-prefix-store
-    slice-aggregate-write-2
+    slice-aggregate-write-core-2
     array-borrow-prefix-forward
-    slice-aggregate-write-3
+    slice-aggregate-write-core-3
     array-borrow-prefix-reverse
-    slice-aggregate-write-4
+    slice-aggregate-write-core-4
     array-borrow-prefix-rows
-    slice-aggregate-write-5
+    slice-aggregate-write-core-5
     array-borrow-prefix-counts
-    slice-aggregate-write-6
-    write-requires
-    numbers-of-requires
+    slice-aggregate-write-core-6
+    write-core-requires
     placed-requires
     returns)

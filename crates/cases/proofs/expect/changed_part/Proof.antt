@@ -1,20 +1,20 @@
--- `cases::expect::changed_part`: the part stays at or below 7. Assumes nothing.
+-- `cases::expect::changed_part`: the part stays at or below 9. Assumes nothing.
 use Prim.Native.Nat.{_≤_, _-_}
 use borrow.Author.Needs.{needs}
 use Rattle.cases.proofs.expect.changed_part.Statement.{statement}
 use Rattle.cases.proofs.expect.changed_part.Tie as tie
 
 abbrev Inv-loop : tie.InvT-loop
-Inv-loop all c part₀ part = part ≤ 7
+Inv-loop all c part₀ part = part ≤ 9
 
 abbrev μ-loop : tie.MeasureT-loop
-μ-loop all c part₀ part = 7 - part
+μ-loop all c part₀ part = 9 - part
 
 loop-holds : tie.Need-loop-holds Inv-loop μ-loop
 loop-holds c = search needs
 
-difference-requires : tie.Need-difference-requires Inv-loop μ-loop
-difference-requires c κs = search needs
+changed-element-requires : tie.Need-changed-element-requires Inv-loop μ-loop
+changed-element-requires c κs = search needs
 
 element-copy-out-if1 : tie.Need-element-copy-out-if1 Inv-loop μ-loop
 element-copy-out-if1 c = search needs
@@ -41,7 +41,7 @@ changed-part-spec =
     Inv-loop
     μ-loop
     loop-holds
-    difference-requires
+    changed-element-requires
     element-copy-out-if1
     returns
     add-part

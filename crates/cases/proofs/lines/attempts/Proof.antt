@@ -8,7 +8,7 @@ abbrev Inv-loop : tie.InvT-loop
 Inv-loop first row number d₀ verb₀ d verb = first ≤ verb
 
 abbrev μ-loop : tie.MeasureT-loop
-μ-loop first row number d₀ verb₀ d verb = 13 - verb
+μ-loop first row number d₀ verb₀ d verb = 15 - verb
 
 loop-holds : tie.Need-loop-holds Inv-loop μ-loop
 loop-holds c = search needs

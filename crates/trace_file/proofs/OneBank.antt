@@ -1,0 +1,19 @@
+-- The claim on a seventh setting of 1. Assumes nothing.
+use Prim.Native.Nat.{ℕ, suc, _+_}
+use native.Mathlib.Omega.{arith}
+use mathlib.Core.Path.{_≡_, refl, ap, _∙_}
+use mathlib.Core.List.{_∷_}
+use lib.Dec.{eqb, eqb·suc-suc}
+use lib.ListN.{length, getD}
+use Rattle.trace_file.specs.Form.{hasSections, banksIn}
+use Rattle.trace_file.specs.OneBank.{SevenWithOneBank}
+
+-- one number more is counted
+one-more : (x y : ℕ) → eqb (suc x) (9 + y) ≡ eqb x (8 + y)
+one-more x y =
+    let e : 9 + y ≡ suc (8 + y) = omega arith in
+    ap (eqb (suc x)) e ∙ eqb·suc-suc x (8 + y)
+
+pub seven-with-one-bank : SevenWithOneBank
+unfolding hasSections banksIn
+seven-with-one-bank n q w k a l rest = rw (one-more (length (n ∷ q ∷ w ∷ k ∷ a ∷ l ∷ 1 ∷ rest)) (getD rest 0 0)) refl
