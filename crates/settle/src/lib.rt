@@ -10,7 +10,6 @@ ghost use Rattle.row_layout.specs.Bytes.{copied};
 ghost use Rattle.engine.specs.State.{storageOf};
 ghost use Rattle.engine.specs.Steps.{moveInto, left, relocated};
 ghost use Rattle.settle.specs.Settling.{Sendable, Movable};
-use engine::Move;
 use geometry::ForwardEntry;
 use geometry::PhysicalRow;
 use geometry::ReverseEntry;
@@ -18,16 +17,6 @@ use geometry::Ring;
 use geometry::Settings;
 use geometry::Slot;
 use geometry::VisibleRow;
-
-// Returns the move into slot d, which has that reverse entry.
-pub fn move_into(d: Slot, held: ReverseEntry) -> Move
-    ensures { λ r. ⌜ r ≡ moveInto (d .0) (held .0) ⌝ }
-{
-    if held.is_empty() {
-        return Move::ToSlot(d);
-    }
-    Move::OverSlot(d, held.row())
-}
 
 // Empties the reverse entry of the slot that a row with that forward entry leaves.
 fn leave(reverse: &mut [u16], entry: ForwardEntry)
