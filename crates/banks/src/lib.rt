@@ -3,8 +3,10 @@
 ghost use mathlib.Core.Path.{_≡_};
 ghost use Prim.Native.Nat.{_≤_, _<_};
 ghost use lib.ListN.{getD, set};
-ghost use Rattle.banks.specs.Banks.{mostBanks, bankOf};
+ghost use Rattle.banks.specs.Banks.{mostBanks, bankOf, withNumbers};
+use geometry::Control;
 use geometry::PhysicalRow;
+use geometry::Ring;
 use geometry::Settings;
 
 // Returns the bank of a physical row. One bank, the usual case, is told without a division.
@@ -35,11 +37,26 @@ pub fn number_of(numbers: [u32; 16], bank: usize) -> u32
 }
 
 // Returns the numbers with another one of a bank.
-pub fn with_number(numbers: [u32; 16], bank: usize, number: u32) -> [u32; 16]
+fn with_number(numbers: [u32; 16], bank: usize, number: u32) -> [u32; 16]
     requires { ⌜ bank < mostBanks ⌝ }
     ensures { λ r. ⌜ r ≡ set numbers bank number ⌝ }
 {
     let mut next = numbers;
     next[bank] = number;
     next
+}
+
+// Returns the control record with another ring, and other numbers of a bank.
+pub fn with_numbers(control: Control, ring: Ring, bank: usize, spill: u32, acts: u32) -> Control
+    requires { ⌜ bank < mostBanks ⌝ }
+    ensures { λ r. ⌜ r ≡ withNumbers control ring bank spill acts ⌝ }
+{
+    let all_spill = control.spill;
+    let all_acts = control.acts;
+    Control {
+        head: ring.head,
+        passed: ring.passed,
+        spill: with_number(all_spill, bank, spill),
+        acts: with_number(all_acts, bank, acts),
+    }
 }
