@@ -159,7 +159,16 @@ pub fn read(
             forward,
             reverse,
         );
-        return done(next, bank, spill, acts, place, estimate, d.0 as u32, held.0 as u32);
+        return done(
+            next,
+            bank,
+            spill,
+            acts,
+            place,
+            estimate,
+            d.0 as u32,
+            held.0 as u32,
+        );
     }
     row_bytes::read_row(store, s.w as usize, place, buffer);
     tracker::follow(i, estimate, place, rows, counts);
@@ -249,7 +258,16 @@ pub fn write(
             forward,
             reverse,
         );
-        return done(next, bank, spill, acts, place, estimate, d.0 as u32, held.0 as u32);
+        return done(
+            next,
+            bank,
+            spill,
+            acts,
+            place,
+            estimate,
+            d.0 as u32,
+            held.0 as u32,
+        );
     }
     row_bytes::write_row(store, s.w as usize, place, column, bytes);
     tracker::follow(i, estimate, place, rows, counts);

@@ -115,7 +115,7 @@ steady-passes S σ s =
       lt-leb (S .q) (σ .control .head) (s .head-in),
       le-ltb (S .q) (σ .control .passed) (s .passed-in),
       bank-none (λ c. trackerUnsound S (getD (σ .control .spill) c 0) (getD (σ .control .acts) c 0) (portion (S .k) c (σ .counts))) (S .b)
-      (λ c b. trusted-passes S (trackerOf S σ c) (s .banks c b)),
+          (λ c b. trusted-passes S (trackerOf S σ c) (s .banks c b)),
     )
 
 -- ---- the two rows with 7

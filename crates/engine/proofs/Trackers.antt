@@ -3,25 +3,23 @@
 use Prim.Native.Nat.{ℕ, _+_, _-_, _*_, _/_, _<_, _≤_}
 use native.Mathlib.Nat.{add-sub-of-le}
 use native.Mathlib.Omega.{arith}
-use mathlib.Core.Path.{_≡_, refl, sym, ap, _∙_, subst}
-use mathlib.Core.Logic.{inl, inr, _≢_}
+use mathlib.Core.Path.{_≡_, sym, ap, _∙_, subst}
+use mathlib.Core.Logic.{_≢_}
 use mathlib.Core.List.{List, _++_}
 use lib.ListN.{length, getD, set, drop, replicate, replicate-append-replicate, length-append, length-set, length-replicate, getD-replicate, List·getD-append}
 use lib.Seq.{drop-at, getD-set-same, getD-set-other}
 use Rattle.geometry.specs.declared.Settings.{Settings}
-use Rattle.geometry.specs.declared.Control.{Control}
 use Rattle.geometry.specs.Entry.{empty}
 use Rattle.conditions.proofs.Facts.{Ranges}
 use Rattle.banks.specs.Portions.{portion, withPortion}
 use Rattle.banks.specs.Banks.{mostBanks, bankOf}
 use Rattle.banks.proofs.Portions.{portion-fits, length-portion, length-withPortion, portion-same, portion-other, portion-replicate}
 use Rattle.banks.proofs.Banks.{bank-in, bank-itself}
-use Rattle.tracking.specs.Track.{Tracked, track}
 use Rattle.tracking.proofs.Entries.{track-long}
 use Rattle.tracking.proofs.Sums.{quotients, sum-portions}
 use Rattle.tracking.proofs.Tracking.{estimateOf}
 use Rattle.tracking.proofs.View.{Counting, Tracks, quotients-few}
-use Rattle.engine.specs.State.{State, Tracker, trackerOf, trackerAt}
+use Rattle.engine.specs.State.{State, Tracker, trackerAt}
 use Rattle.engine.specs.Steps.{place, tracked, trackerAfter, counted}
 use Rattle.engine.specs.Calls.{cleared, zeroBelow, ticked}
 use Rattle.engine.proofs.Pointers.{Sound}

@@ -2,9 +2,7 @@
 // 2 changes is found first, which writes nothing; then it is followed.
 ghost use mathlib.Core.Path.{_≡_};
 ghost use mathlib.Core.Logic.{_≢_};
-ghost use mathlib.Core.Bool.{false};
 ghost use Prim.Native.Nat.{_+_, _*_, _<_, _≤_};
-ghost use lib.Dec.{ltb};
 ghost use lib.ListN.{length, getD, replicate};
 ghost use Rattle.geometry.specs.Entry.{empty};
 ghost use Rattle.tracking.specs.Entry.{entryIn, estimateAt, rowsAfter, countsAfter, spillAfter};
@@ -56,13 +54,7 @@ pub fn spill_after(estimate: u32, spill: u32) -> u32
 }
 
 // Follows step 2 in the tables.
-pub fn follow(
-    entry: usize,
-    estimate: u32,
-    place: PhysicalRow,
-    rows: &mut [u16],
-    counts: &mut [u32],
-)
+pub fn follow(entry: usize, estimate: u32, place: PhysicalRow, rows: &mut [u16], counts: &mut [u32])
     requires { ⌜
         (place .0 < 65536) × (estimate ≢ 0 → entry < length (now rows)) × (estimate ≢ 0 → entry < length (now counts)) ⌝ }
     ensures rows { λ _. ⌜ now (rows .exit) ≡ rowsAfter entry estimate (place .0) (now (rows .entry)) ⌝ }

@@ -145,7 +145,6 @@ module _ (y : tie.Else6) where
   goes-taken : Taken (s (n₃ w₃)) (σ (n₃ w₃)) (r (n₃ w₃)) (off (k₂ w₃)) (k₂ w₃ .before .before .entry-of .result) (w₃ .before .before .before .before .before .before .before .before .before .before .before .before .before .place .result)
   goes-taken = record { number-0 = sym (last-is z₁) ∙ y .if6 .left; entered = k₂ w₃ .before .before .entry-of .ensures; placed = found w₃ .placed }
 
-
 element-copy-out-first-bank-number : tie.Need-element-copy-out-first-bank-number
 element-copy-out-first-bank-number c = search needs
 

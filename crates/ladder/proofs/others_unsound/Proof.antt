@@ -1,6 +1,6 @@
 -- `others_unsound`: what is found of the banks so far, bank after bank. Assumes nothing.
 use Prim.Native.Nat.{ℕ, suc, _+_, _-_, _*_, _≤_}
-use mathlib.Core.Path.{_≡_, refl, sym, ap, _∙_}
+use mathlib.Core.Path.{_≡_, refl, ap, _∙_}
 use mathlib.Core.Bool.{Bool}
 use mathlib.Core.List.{List}
 use native.Mathlib.Omega.{arith}
@@ -98,14 +98,13 @@ loop-again c =
     let next : l .bank ≡ suc (l .bank - 1) = omega (arith, l .inv .0) in
     let here : c .tracker-unsound .result ≡ bankUnsound (a .s) (a .control .spill) (a .control .acts) (a .counts .now) (l .bank) =
     c .tracker-unsound .ensures
-    ∙ ap (trackerUnsound (a .s) (getD (a .control .spill) (l .bank) 0) (getD (a .control .acts) (l .bank) 0)) (portion-lent (a .s .k) (l .bank) (a .counts .now)) in
-    (
+    ∙ ap (trackerUnsound (a .s) (getD (a .control .spill) (l .bank) 0) (getD (a .control .acts) (l .bank) 0)) (portion-lent (a .s .k) (l .bank) (a .counts .now)) in (
       omega (arith, l .inv .0),
       omega (arith, c .before .before .loop-test .taken, l .inv .3),
       l .inv .2,
       l .inv .3,
       bank-more test (l .bank - 1) (l .inv .4) (here ∙ ap (bankUnsound (a .s) (a .control .spill) (a .control .acts) (a .counts .now)) next)
-      ∙ ap (someBank test) (let e : l .bank - 1 + 1 ≡ l .bank + 1 - 1 = omega (arith, l .inv .0) in e),
+          ∙ ap (someBank test) (let e : l .bank - 1 + 1 ≡ l .bank + 1 - 1 = omega (arith, l .inv .0) in e),
     )
 
 returns-2 : tie.Need-returns-2 Inv-loop μ-loop

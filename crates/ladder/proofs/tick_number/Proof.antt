@@ -1,5 +1,5 @@
 -- `tick_number`: the two stages of 1 to 4, one after the other. Assumes nothing.
-use mathlib.Core.Path.{_≡_, sym, _∙_}
+use mathlib.Core.Path.{sym, _∙_}
 use Rattle.engine.specs.State.{stateOf}
 use Rattle.engine.proofs.Rungs.{goes-by, applies}
 use Rattle.ladder.proofs.Stages.{others-asked, tick-stops, tick-goes}
