@@ -26,8 +26,7 @@ pub struct Reported {
     pub control: Control,
 }
 
-// Reads a row, with the control record by value. What the access changes of the record is stored in a copy, the first
-// bank's numbers at an index that the compiler knows: with one bank that is all that is paid for the others.
+// Reads a row, with the control record by value.
 pub fn read_core(
     control: Control,
     s: Settings,
@@ -46,29 +45,26 @@ pub fn read_core(
         (now (rows .exit)) (now (counts .exit)) (r .control) in
         ⌜ ReadPromise s before row (now (buffer .entry)) after (r .outcome) (now (buffer .exit)) ⌝ }
 {
-    let mut next = control;
-    let t = access::read(next, s, row, buffer, store, forward, reverse, rows, counts);
+    let t = access::read(
+        control,
+        s,
+        row,
+        buffer,
+        store,
+        forward,
+        reverse,
+        rows,
+        counts,
+    );
     let outcome = t.outcome;
-    next.head = t.ring.head;
-    next.passed = t.ring.passed;
-    if t.bank == 0 {
-        next.spill[0] = t.spill;
-        next.acts[0] = t.acts;
-    } else {
-        let spill = next.spill;
-        let acts = next.acts;
-        let all_spill = banks::with_number(spill, t.bank, t.spill);
-        let all_acts = banks::with_number(acts, t.bank, t.acts);
-        next.spill = all_spill;
-        next.acts = all_acts;
-    }
+    let ring = t.ring;
     Reported {
         outcome: outcome,
-        control: next,
+        control: banks::with_numbers(control, ring, t.bank, t.spill, t.acts),
     }
 }
 
-// Writes into a row, with the control record by value, which is dealt with as in `read_core`.
+// Writes into a row, with the control record by value.
 pub fn write_core(
     control: Control,
     s: Settings,
@@ -88,9 +84,8 @@ pub fn write_core(
         (now (rows .exit)) (now (counts .exit)) (r .control) in
         ⌜ WritePromise s before row column (now (bytes .entry)) after (r .outcome) ⌝ }
 {
-    let mut next = control;
     let t = access::write(
-        next,
+        control,
         s,
         row,
         column,
@@ -102,22 +97,10 @@ pub fn write_core(
         counts,
     );
     let outcome = t.outcome;
-    next.head = t.ring.head;
-    next.passed = t.ring.passed;
-    if t.bank == 0 {
-        next.spill[0] = t.spill;
-        next.acts[0] = t.acts;
-    } else {
-        let spill = next.spill;
-        let acts = next.acts;
-        let all_spill = banks::with_number(spill, t.bank, t.spill);
-        let all_acts = banks::with_number(acts, t.bank, t.acts);
-        next.spill = all_spill;
-        next.acts = all_acts;
-    }
+    let ring = t.ring;
     Reported {
         outcome: outcome,
-        control: next,
+        control: banks::with_numbers(control, ring, t.bank, t.spill, t.acts),
     }
 }
 
@@ -144,7 +127,8 @@ pub extern "C" fn aqua_set_up(
     t.number
 }
 
-// Reads a row: returns the answer in numbers, and fills the buffer where the number is 0.
+// Reads a row: returns the answer in numbers, and fills the buffer where the number is 0. Of the record it stores what the
+// access changes: to copy the whole back was a tenth of an access.
 #[no_mangle]
 pub extern "C" fn aqua_read(
     control: &mut Control,
@@ -164,7 +148,7 @@ pub extern "C" fn aqua_read(
         (now (rows .exit)) (now (counts .exit)) (now (control .exit)) in
         ⌜ ReadPromise s before row (now (buffer .entry)) after r (now (buffer .exit)) ⌝ }
 {
-    let t = read_core(
+    let t = access::read(
         *control,
         s,
         row,
@@ -175,11 +159,14 @@ pub extern "C" fn aqua_read(
         rows,
         counts,
     );
-    *control = t.control;
+    control.head = t.ring.head;
+    control.passed = t.ring.passed;
+    control.spill[t.bank] = t.spill;
+    control.acts[t.bank] = t.acts;
     t.outcome
 }
 
-// Writes bytes into a row from a column on, and returns the answer in numbers.
+// Writes bytes into a row from a column on, and returns the answer in numbers. The record is dealt with as in `aqua_read`.
 #[no_mangle]
 pub extern "C" fn aqua_write(
     control: &mut Control,
@@ -200,7 +187,7 @@ pub extern "C" fn aqua_write(
         (now (rows .exit)) (now (counts .exit)) (now (control .exit)) in
         ⌜ WritePromise s before row column (now (bytes .entry)) after r ⌝ }
 {
-    let t = write_core(
+    let t = access::write(
         *control,
         s,
         row,
@@ -212,7 +199,10 @@ pub extern "C" fn aqua_write(
         rows,
         counts,
     );
-    *control = t.control;
+    control.head = t.ring.head;
+    control.passed = t.ring.passed;
+    control.spill[t.bank] = t.spill;
+    control.acts[t.bank] = t.acts;
     t.outcome
 }
 

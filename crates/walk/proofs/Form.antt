@@ -1,10 +1,10 @@
 -- What an entry is: a function that hands its parameters on to a core.
---     fn entry(x: &mut X, others ..) -> R { let t = core(*x, others ..); *x = t.record; t.result }
+--     fn entry(x: &mut X, others ..) -> R { let t = core(*x, others ..); x.a = t.b; x.c[t.i] = t.d; t.result }
 --     fn entry(x: &X, others ..) -> R { core(*x, others ..) }
 -- The two differ in the reference and in what is done after the call; a `Form` says which. Their code begins alike: the
 -- record is copied into a local, each `&mut` slice is lent on, and the core is called. The compiler numbers the locals
 -- regularly: 0 is the result, 1 the reference, then come the other parameters, the core's answer where it is not the
--- result, the copy of the record, and two for each slice that is lent on.
+-- result, the copy of the record, two for each slice that is lent on, and those that come after the call.
 --     codeOf F core    the code of an entry of the form F.        Formed F τs      locals of the types τs serve it
 -- Assumes nothing.
 use mathlib.Core.Path.{_≡_}
@@ -29,7 +29,7 @@ use denote.Signature.{Slot, plain, typesAt}
 use denote.Struct.Declared.{Declared, row, fields, shape}
 use denote.Struct.Struct.{Plains, layout}
 use denote.Struct.Laws as LL
-use Rattle.walk.proofs.Locals.{typeAt, Contents, put, held, contents, takes, taken, arguments, conj}
+use Rattle.walk.proofs.Locals.{Contents, put, held, contents, takes, taken, arguments, conj}
 use Rattle.walk.proofs.Lending.{Lend, Slices, relends, all-lent, sources, wanted, lendable}
 use Rattle.walk.proofs.Cells.{copies}
 use Rattle.walk.proofs.Spelled.{Spelled, pointer, values}
@@ -55,18 +55,20 @@ pub record Form : Type 2 where
   pub left : (κ : Lft) → Ref κ .Denot → Last → Fml
   pub Seen : Type 0
   pub see : (κ : Lft) → Ref κ .Denot → Last → Seen
-  -- what the core answers, what the entry returns, and the entry's result and last value of such an answer
+  -- what the core answers, and what the entry returns; the entry's result, and the last value, of such an answer to the
+  -- record; and what the entry asks of the answer, so that what it does with it is safe
   pub Y : Lfts (count ps) → RattleType
   pub R : Lfts (count ps) → RattleType
   pub answers : (κ : Lfts (count ps)) → Spelled (Y κ)
   pub results : (κ : Lfts (count ps)) → Spelled (R κ)
   pub gives : (κ : Lfts (count ps)) → Y κ .Denot → R κ .Denot
-  pub to : (κ : Lfts (count ps)) → Y κ .Denot → Last
-  -- the local of the answer, what is asked of its type, the local of the record's copy, and what is done after the call
+  pub to : (κ : Lfts (count ps)) → T .X .D → Y κ .Denot → Last
+  pub sound : (κ : Lfts (count ps)) → Y κ .Denot → Type 0
+  -- the local of the answer, that of the record's copy, what is done after the call, and what that asks of the locals' types
   pub answer : ℕ
-  pub typed : Ty → Type 0
   pub copied : ℕ
   pub rest : Body
+  pub typed : List Ty → Type 0
 
 module _ (F : Form) where
   -- the lifetimes of the core's parameters, and the types of those after the record, and of all
@@ -144,7 +146,7 @@ module _ (F : Form) where
     -- and each local takes what is stored in it: of the record, the answer and the result, if it is a value of its type
     pub able : (z : Args) → T (conj (tests z τs))
     pub copy : (z : Args) → T (hasTy (layout (shape (F .T .X))) (w z)) → T (takes (F .copied) τs (w z))
-    pub type : F .typed (typeAt τs (F .answer))
+    pub rest : F .typed τs
     pub answer : (κ : Lfts n) (d : F .Y κ .Denot) → let v = F .answers κ .val d in
         T (hasTy (lone (F .Y κ .mir)) v) → T (takes (F .answer) τs v)
     pub result : (κ : Lfts n) (r : F .R κ .Denot) → let v = F .results κ .val r in

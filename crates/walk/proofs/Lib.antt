@@ -1,7 +1,10 @@
 -- The lemmas are `mut-entry` (`Mutable`) and `ref-entry` (`Shared`); what they suppose is said at the head of `Entry`.
 pub mod Locals
 pub mod Cells
+pub mod Parts
 pub mod Spelled
+pub mod Stores
+pub mod Arrays
 pub mod Frame
 pub mod Lending
 pub mod Parameters

@@ -71,6 +71,13 @@ slicesFrom k p n j (lent R ∷ ps) at κs a = (
   slicesFrom (suc (suc k)) (suc p) n (suc j) ps (λ κs. at κs .1) κs (a .1),
 )
 
+-- the next free local once they are lent on
+abbrev pub freeFrom : ℕ → List Param → ℕ
+freeFrom k [] = k
+freeFrom k (value R l ∷ ps) = freeFrom k ps
+freeFrom k (shared R ∷ ps) = freeFrom k ps
+freeFrom k (lent R ∷ ps) = freeFrom (suc (suc k)) ps
+
 abbrev passesFrom : (k p : ℕ) → List Param → List ℕ
 passesFrom k p [] = []
 passesFrom k p (value R l ∷ ps) = p ∷ passesFrom k (suc p) ps

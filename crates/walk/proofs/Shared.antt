@@ -12,7 +12,7 @@ use base.Fml.{ftrue}
 use prog.Model.{Model}
 use prog.Wp.{Heap}
 use ghost.Atoms.{Atoms}
-use types.Kit.{Given, raw, _$_, !, by, move, drop, keep, use1, join, fsplit, fjoin}
+use types.Kit.{Given, _$_, !, by, move, drop, keep, join, fsplit, fjoin}
 use contract.Lifetimes.{Lfts}
 use contract.Running.{GhostRules, Running, givenOf}
 use denote.Laws.{Is}
@@ -49,11 +49,12 @@ looking T ps {R} L = record {
   answers = L;
   results = L;
   gives = λ κ r. r;
-  to = λ κ r. tt;
+  to = λ κ h r. tt;
+  sound = λ κ r. Unit {0};
   answer = 0;
-  typed = λ τ. Unit {0};
   copied = suc (suc (length ps));
   rest = return;
+  typed = λ τs. Unit {0};
 }
 
 module _ {M : Type 1} (𝓤 : URA M) (H : Heap 𝓤) (A : Atoms 𝓤) (W : Given 𝓤 H A) (T : Record) (ps : List Param)
@@ -68,20 +69,19 @@ module _ {M : Type 1} (𝓤 : URA M) (H : Heap 𝓤) (A : Atoms 𝓤) (W : Given
       let Te : Terms 𝓤 = entry-of F 𝓤 kept Ensured in
       let b : ℕ = a .0 .ptr .0 in
       let o : ℕ = a .0 .ptr .1 in
-      looked T h b o ! tt (λ s was. let good = spelled-fits 𝓤 H A W (struct (T .X) (T .laws)) h was in
-      move ! (7 ∷ 0 ∷ []) $
+      looked T h b o ! tt (λ s was. let good = spelled-fits 𝓤 H A W (struct (T .X) (T .laws)) h was in move ! (7 ∷ 0 ∷ []) $
       -- [the locals; a share of the record's cell; what it owns; the open borrow; the borrow; its value; the tokens]
       to-call W C Λ E ok z good $ move ! (1 ∷ 2 ∷ 3 ∷ []) $
       shuts ! tt (row (T .X)) s h (w F z ∷ []) b o $
       owned ! (row (T .X)) (Is (row (T .X))) (LL.makes (T .X) (T .plains) 𝓤 H A) h (w F z ∷ []) was $
       move ! (5 ∷ 0 ∷ 6 ∷ 2 ∷ []) $
-      over-call W C Λ E ok z kept Ensures fm core known (qs .1) good (λ r ws is.
+      over-call W C Λ E ok z kept Ensures fm core known (qs .1) good (λ r ws. Te .Ensures κs a r (tt, ws .1)) (follows κs a)
+      (λ r ws _ is.
       let v : Val = L (κs .1) .val r in
-      -- [the locals; what the result owns; the tokens; the last values; what the core ensures; the token of the borrow]
-      ends ! E v (put 0 v (at-call F z)) (ok .result (κs .1) r (spelled-fits 𝓤 H A W (L (κs .1)) r is .0))
-      (content-put 0 v (at-call F z)) (
-      move ! (3 ∷ []) $ use1 W (raw (Te .Ensures κs a r (tt, ws .1))) (follows κs a r ws) $
-      move ! (3 ∷ []) $ fsplit ! $ drop ! $ nothing ! $ fjoin ! $ keep ! (4 ∷ 3 ∷ 2 ∷ 0 ∷ 1 ∷ []) $ join ! $
+      let fits = spelled-fits 𝓤 H A W (L (κs .1)) r is in
+      -- [the locals; what the result owns; the tokens; the last values; what is ensured; the token of the borrow]
+      ends ! E v (put 0 v (at-call F z)) (ok .result (κs .1) r (fits .0)) (content-put 0 v (at-call F z)) (
+      move ! (2 ∷ []) $ fsplit ! $ drop ! $ nothing ! $ fjoin ! $ keep ! (4 ∷ 2 ∷ 1 ∷ 0 ∷ 3 ∷ []) $ join ! $
       by ! (gives 𝓤 H A Te κs qs a W v r (tt, ws .1)))))
 
 pub ref-entry : {M : Type 1} (𝓤 : URA M) (H : Heap 𝓤) (𝓜 : Model 𝓤 H) (𝓖 : GhostRules 𝓤 H) (𝓡 : Running 𝓤 H 𝓜)

@@ -2,9 +2,9 @@
 -- By the lemma of crate `walk`. Assumes nothing.
 use mathlib.Core.Path.{refl}
 use mathlib.Core.List.{_∷_}
-use base.Logic.{id⊢}
 use denote.Builtin.{u8, u16}
 use Rattle.walk.proofs.Parameters.{shared}
+use Rattle.walk.proofs.Contract.{handed-on}
 use Rattle.walk.proofs.Mutable.{mut-entry}
 use Rattle.rank.proofs.Answers.{numbered, settings, tracker}
 use Rattle.upkeep.proofs.tick as core
@@ -20,14 +20,14 @@ unfolding code.routine
 aqua-tick-spec 𝓤 H 𝓜 𝓖 𝓡 =
     mut-entry 𝓤 H 𝓜 𝓖 𝓡 numbered (settings ∷ shared u8 ∷ shared u16 ∷ shared u16 ∷ tracker) (core.ended .kept)
     (λ κ a. core.clauses 𝓤 H (𝓖 .A) (𝓜 .mem) (𝓡 .run) κ a .ensures tt) def.routine (thm.met 𝓤 H 𝓜 𝓖 𝓡)
-    (λ κs a. f.clauses 𝓤 H (𝓖 .A) (𝓜 .mem) (𝓡 .run) κs a .ensures tt) (λ κs a d ws. id⊢ 𝓤 _)
+    (λ κs a. f.clauses 𝓤 H (𝓖 .A) (𝓜 .mem) (𝓡 .run) κs a .ensures tt) (λ κs a d ws. handed-on 𝓤 _)
     code.env key code.function (code.unfolded 𝓤 H 𝓜 𝓡) def.name code.calls-upkeep·tick refl
     (record {
       lent = λ z. refl;
       sent = λ z. refl;
       able = λ z. tt;
       copy = λ z h. h;
-      type = refl;
+      rest = (refl, λ b o h d. tt);
       answer = λ κ d h. h;
       result = λ κ r h. h;
     })

@@ -1,15 +1,15 @@
--- `aqua_write` hands its parameters on to `rank::write_core`, and meets its contract by the core's.
--- By the lemma of crate `walk`. Assumes nothing.
+-- `aqua_write` hands its parameters on to `access::write`, stores the numbers that it answers in the record, and meets its
+-- contract by the core's. By the lemma of crate `walk`. Assumes nothing.
 use mathlib.Core.Path.{refl}
 use mathlib.Core.List.{_∷_}
-use base.Logic.{id⊢}
 use denote.Builtin.{u8}
 use Rattle.walk.proofs.Parameters.{shared, lent}
+use Rattle.walk.proofs.Contract.{first-told}
 use Rattle.walk.proofs.Mutable.{mut-entry}
-use Rattle.rank.proofs.Answers.{reported, settings, number, column, tables}
-use Rattle.rank.proofs.write_core as core
-use Rattle.rank.proofs.write_core.Symbol as def
-use Rattle.rank.proofs.write_core.Met as thm
+use Rattle.rank.proofs.Answers.{answered, settings, number, column, tables}
+use Rattle.access.proofs.write as core
+use Rattle.access.proofs.write.Symbol as def
+use Rattle.access.proofs.write.Met as thm
 use Rattle.rank.proofs.aqua_write as f
 use Rattle.rank.proofs.aqua_write.Key.{name as key}
 use Rattle.rank.proofs.aqua_write.Statement as stated
@@ -18,16 +18,17 @@ use Rattle.rank.proofs.aqua_write.Code as code
 pub aqua-write-spec : {M : Type 1} → stated.statement M
 unfolding code.routine
 aqua-write-spec 𝓤 H 𝓜 𝓖 𝓡 =
-    mut-entry 𝓤 H 𝓜 𝓖 𝓡 reported (settings ∷ number ∷ column ∷ shared u8 ∷ lent u8 ∷ tables) (core.ended .kept)
+    mut-entry 𝓤 H 𝓜 𝓖 𝓡 answered (settings ∷ number ∷ column ∷ shared u8 ∷ lent u8 ∷ tables) (core.ended .kept)
     (λ κ a. core.clauses 𝓤 H (𝓖 .A) (𝓜 .mem) (𝓡 .run) κ a .ensures tt) def.routine (thm.met 𝓤 H 𝓜 𝓖 𝓡)
-    (λ κs a. f.clauses 𝓤 H (𝓖 .A) (𝓜 .mem) (𝓡 .run) κs a .ensures tt) (λ κs a d ws. id⊢ 𝓤 _)
-    code.env key code.function (code.unfolded 𝓤 H 𝓜 𝓡) def.name code.calls-rank·write-core refl
+    (λ κs a. f.clauses 𝓤 H (𝓖 .A) (𝓜 .mem) (𝓡 .run) κs a .ensures tt)
+    (λ κs a d ws. first-told 𝓤 (λ below. (below, (below, tt))))
+    code.env key code.function (code.unfolded 𝓤 H 𝓜 𝓡) def.name code.calls-access·write refl
     (record {
       lent = λ z. refl;
       sent = λ z. refl;
       able = λ z. tt;
       copy = λ z h. h;
-      type = refl;
+      rest = (refl, λ b o h d. tt);
       answer = λ κ d h. h;
       result = λ κ r h. h;
     })
