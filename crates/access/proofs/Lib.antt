@@ -1,2 +1,4 @@
-pub mod Found
+pub mod Finds
+pub mod Takes
+pub mod Refuses
 pub mod Serves

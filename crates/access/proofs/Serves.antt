@@ -1,51 +1,81 @@
 -- Read and write as the code puts them together are the definitions of `Calls`. Assumes nothing.
-use Prim.Native.Nat.{ℕ, suc, _+_, _*_, _<_, _≤_}
+use Prim.Native.Nat.{ℕ, _+_, _<_, _≤_}
 use native.Mathlib.Omega.{arith}
 use mathlib.Core.Path.{_≡_, refl, sym, ap, _∙_, subst}
 use mathlib.Core.Logic.{inl, inr, _≢_}
 use mathlib.Core.Bool.{Bool, true, false}
 use mathlib.Core.List.{List, []}
 use lib.Dec.{eqb}
-use lib.ListN.{length, getD, set}
+use lib.ListN.{length}
 use lib.Seq.{set-getD}
 use borrow.Author.Tests.{eq-eqb, ne-eqb, eqb-true, ltb-false, not-false}
 use Rattle.geometry.specs.declared.Settings.{Settings}
 use Rattle.geometry.specs.declared.ForwardEntry.{ForwardEntry}
-use Rattle.geometry.specs.declared.Ring.{Ring}
 use Rattle.geometry.specs.declared.PhysicalRow.{PhysicalRow}
-use Rattle.geometry.specs.Numbering.{physical}
 use Rattle.geometry.specs.Entry.{empty}
 use Rattle.geometry.proofs.Cases.{split}
-use Rattle.banks.specs.Banks.{mostBanks, bankOf, withNumbers}
-use Rattle.tracking.specs.Entry.{entryIn, estimateAt, rowsAfter, countsAfter, spillAfter}
-use Rattle.tracking.proofs.Banks.{spill-in, rows-in, counts-in}
+use Rattle.banks.specs.Banks.{mostBanks, withNumbers}
+use Rattle.tracking.specs.Entry.{rowsAfter, countsAfter}
 use Rattle.row_layout.specs.Bytes.{rowBytes, written}
 use Rattle.row_layout.proofs.Laws.{length-written}
-use Rattle.engine.specs.State.{State, Tracker, stateOf, trackerAt, Storage, storageOf, ringOf, reverseOf}
+use Rattle.engine.specs.State.{State, stateOf, Storage, storageOf, ringOf, reverseOf}
 use Rattle.engine.specs.Answer.{slotMovedTo, rowSentHome}
-use Rattle.engine.specs.Steps.{place, counted, moves, destination, moveInto, move, relocated}
+use Rattle.engine.specs.Steps.{place, destination, moveInto, move, relocated}
 use Rattle.engine.specs.Ladder.{accessNumber, readOff, writeOff}
 use Rattle.engine.specs.Calls.{Accessed, accessed, read, write}
 use Rattle.figures.specs.Promises.{AccessPromise}
+use Rattle.verdict.specs.declared.Verdict.{Verdict}
 use Rattle.access.specs.declared.Answered.{Answered}
+use Rattle.access.specs.declared.Found.{Found}
 use Rattle.access.specs.Answers.{refusalOf, doneOf}
-use Rattle.access.proofs.Found.{Seen, Taken, span-in, place-in, store-long}
+use Rattle.access.proofs.Finds.{bank-is, bank-small, place-is, acts-are, estimate-is, spill-then, rows-then, counts-then}
+use Rattle.access.proofs.Takes.{Stays, Goes, Taken, stays, stays-taken, goes, goes-taken, target-is}
+use Rattle.access.proofs.Takes.{span-in, place-in, store-long}
 
 -- all that is lent after an access: the slices, and the control record with the numbers that the code gives
 abbrev pub leftBy : State → List ℕ → List ℕ → List ℕ → List ℕ → List ℕ → Answered → State
 leftBy σ store forward reverse rows counts t =
     stateOf store forward reverse rows counts (withNumbers (σ .control) (t .ring) (t .bank) (t .spill) (t .acts))
 
--- what is promised of an access: after is the store with the bytes, filled what the buffer is filled with; t: what the code gives
-abbrev pub Serves : Settings → State → ℕ → Bool → List ℕ → List ℕ → List ℕ → State → Answered → List ℕ → Type 0
-Serves S σ r off after filled buffer left t given =
-    (t .bank < mostBanks) × AccessPromise (accessed S σ r (accessNumber S σ r off) after filled buffer) left (t .outcome) given
+-- what is promised of an access (a: what the definition gives; t: what the code gives)
+abbrev pub Serves : Accessed → State → Answered → List ℕ → Type 0
+Serves a left t given = (t .bank < mostBanks) × AccessPromise a left (t .outcome) given
 
--- ---- a refusal
+-- what following step 2 promises
+abbrev pub Followed : State → Found → List ℕ → List ℕ → Type 0
+Followed σ f rows counts =
+    (rows ≡ rowsAfter (f .entry) (f .estimate) (f .place .0) (σ .rows))
+    × (counts ≡ countsAfter (f .entry) (f .estimate) (σ .counts))
+
+-- what `stay` promises
+abbrev pub Stayed : State → Found → Answered → List ℕ → List ℕ → Type 0
+Stayed σ f t rows counts = (t ≡ doneOf (ringOf (σ .control)) f empty empty) × Followed σ f rows counts
+
+-- the storage before an access, with the bytes in the store
+abbrev pub withStore : State → List ℕ → Storage
+withStore σ store = storageOf store (σ .forward) (σ .reverse) (ringOf (σ .control))
+
+-- what `go` promises; was, left: the storage before and after
+abbrev pub Gone : Settings → State → ℕ → Found → Verdict → Storage → Answered → Storage → List ℕ → List ℕ → Type 0
+Gone S σ r f v was t left rows counts =
+    (t ≡ doneOf (t .ring) f (v .d .0) (v .held .0))
+    × ((left ≡ relocated S r (f .place .0) (moveInto (v .d .0) (v .held .0)) was) × Followed σ f rows counts)
+
+-- ---- any access: `after` is the store with the bytes, `filled` what the buffer is filled with
+
+-- what is answered of a move into slot d, whose reverse entry is `held`
+slot-told : (d held : ℕ) → slotMovedTo (moveInto d held) ≡ d
+slot-told d held = elim (split (eqb held empty)) [ inl e ↦ rw e | inr e ↦ rw e ]
+
+row-told : (d held : ℕ) → rowSentHome (moveInto d held) ≡ held
+row-told d held = elim (split (eqb held empty)) [ inl e ↦ rw e (sym (eqb-true held empty e)) | inr e ↦ rw e ]
 
 module _ (S : Settings) (σ : State) (r : ℕ) (off : Bool) (after filled buffer : List ℕ) where
-  pub refused-is : {x : ℕ} {t : Answered} → t ≡ refusalOf (σ .control) x → x ≡ accessNumber S σ r off → x ≢ 0
-      → Serves S σ r off after filled buffer (leftBy σ (σ .store) (σ .forward) (σ .reverse) (σ .rows) (σ .counts) t) t buffer
+  abbrev done : Accessed
+  done = accessed S σ r (accessNumber S σ r off) after filled buffer
+
+  refused-is : {x : ℕ} {t : Answered} → t ≡ refusalOf (σ .control) x → x ≡ accessNumber S σ r off → x ≢ 0
+      → Serves done (leftBy σ (σ .store) (σ .forward) (σ .reverse) (σ .rows) (σ .counts) t) t buffer
   unfolding accessed
   refused-is {x} is e n =
       let no : eqb (accessNumber S σ r off) 0 ≡ false = ne-eqb (accessNumber S σ r off) 0 (λ z. n (e ∙ z)) in
@@ -58,94 +88,139 @@ module _ (S : Settings) (σ : State) (r : ℕ) (off : Bool) (after filled buffer
         ),
       )
 
--- ---- an accepted access
+  module _ {e : ForwardEntry} {f : Found} where
+    stay-is : Stays S σ r off e f → {t : Answered} {rows counts : List ℕ} → Stayed σ f t rows counts
+        → Serves done (leftBy σ after (σ .forward) (σ .reverse) rows counts t) t filled
+    unfolding accessed move
+    stay-is H is =
+        let F = H .seen in
+        let B = F .banked in
+        let yes : eqb (accessNumber S σ r off) 0 ≡ true = eq-eqb (accessNumber S σ r off) 0 (stays-taken H .number-0) in
+        let er = is .1 .0 ∙ rows-then F in
+        let ec = is .1 .1 ∙ counts-then F in
+        rw (is .0) (
+          bank-small B,
+          (
+            rw (er, ec, yes, stays H, spill-then F, acts-are B (F .acted), bank-is B) refl,
+            rw (yes, stays H, estimate-is F, place-is B) refl,
+            rw yes refl,
+          ),
+        )
 
--- what is answered of a move into slot d, whose reverse entry is `held`
-slot-told : (d held : ℕ) → slotMovedTo (moveInto d held) ≡ d
-slot-told d held = elim (split (eqb held empty)) [ inl e ↦ rw e | inr e ↦ rw e ]
-
-row-told : (d held : ℕ) → rowSentHome (moveInto d held) ≡ held
-row-told d held = elim (split (eqb held empty)) [ inl e ↦ rw e (sym (eqb-true held empty e)) | inr e ↦ rw e ]
-
-module _ (S : Settings) (σ : State) (r : ℕ) (off : Bool) (after filled buffer : List ℕ) {p : PhysicalRow} {bank spill acts i estimate : ℕ}
-    (F : Seen S σ r p bank spill acts i estimate) (number-0 : accessNumber S σ r off ≡ 0) {rows counts : List ℕ}
-    (er : rows ≡ rowsAfter i estimate (p .0) (σ .rows)) (ec : counts ≡ countsAfter i estimate (σ .counts)) where
-  -- the row stays
-  pub stay-is : moves S σ r ≡ false → {t : Answered} → t ≡ doneOf (ringOf (σ .control)) bank spill acts (p .0) estimate empty empty
-      → Serves S σ r off after filled buffer (leftBy σ after (σ .forward) (σ .reverse) rows counts t) t filled
-  unfolding accessed move
-  stay-is stays is =
-      let yes : eqb (accessNumber S σ r off) 0 ≡ true = eq-eqb (accessNumber S σ r off) 0 number-0 in
-      rw is (
-        F .bank-small,
-        (
-          rw (er ∙ F .rows-then, ec ∙ F .counts-then, yes, stays, F .spill-then, F .acts-are, F .bank-is) refl,
-          rw (yes, stays, F .estimate-is, F .placed) refl,
-          rw yes refl,
-        ),
-      )
-
-  -- the row goes to slot d
-  pub go-is : moves S σ r ≡ true → {d held : ℕ} → d ≡ destination S σ r → held ≡ reverseOf σ (destination S σ r)
-      → {ring′ : Ring} {store forward reverse : List ℕ}
-      → storageOf store forward reverse ring′ ≡ relocated S r (p .0) (moveInto d held) (storageOf after (σ .forward) (σ .reverse) (ringOf (σ .control)))
-      → {t : Answered} → t ≡ doneOf ring′ bank spill acts (p .0) estimate d held
-      → Serves S σ r off after filled buffer (leftBy σ store forward reverse rows counts t) t filled
-  unfolding accessed move
-  go-is due {d} {held} to was {ring′} {store} {forward} {reverse} gone {t} is =
-      let yes : eqb (accessNumber S σ r off) 0 ≡ true = eq-eqb (accessNumber S σ r off) 0 number-0 in
-      let es : store ≡ _ = ap (λ (l : Storage). l .store) gone in
-      let ef : forward ≡ _ = ap (λ (l : Storage). l .forward) gone in
-      let ev : reverse ≡ _ = ap (λ (l : Storage). l .reverse) gone in
-      let en : ring′ ≡ _ = ap (λ (l : Storage). l .ring) gone in
-      rw is (
-        F .bank-small,
-        (
-          rw (es, ef, ev, en, er ∙ F .rows-then, ec ∙ F .counts-then, yes, due, to, was, F .placed, F .spill-then, F .acts-are, F .bank-is) refl,
-          rw (yes, due, to, was, F .estimate-is, F .placed, slot-told (destination S σ r) (reverseOf σ (destination S σ r)), row-told (destination S σ r) (reverseOf σ (destination S σ r))) refl,
-          rw yes refl,
-        ),
-      )
+    go-is : {v : Verdict} → Goes S σ r off e f v → {t : Answered} {store forward reverse rows counts : List ℕ}
+        → Gone S σ r f v (withStore σ after) t (storageOf store forward reverse (t .ring)) rows counts
+        → Serves done (leftBy σ store forward reverse rows counts t) t filled
+    unfolding accessed move
+    go-is {v} G {t} {store} {forward} {reverse} {rows} {counts} is =
+        let F = G .judged .seen in
+        let B = F .banked in
+        let d : ℕ = destination S σ r in
+        let held : ℕ = reverseOf σ d in
+        let to = target-is G .0 in
+        let was = target-is G .1 in
+        let due = goes (G .judged) in
+        let yes : eqb (accessNumber S σ r off) 0 ≡ true = eq-eqb (accessNumber S σ r off) 0 (goes-taken G .number-0) in
+        let es : store ≡ _ = ap (λ (l : Storage). l .store) (is .1 .0) in
+        let ef : forward ≡ _ = ap (λ (l : Storage). l .forward) (is .1 .0) in
+        let ev : reverse ≡ _ = ap (λ (l : Storage). l .reverse) (is .1 .0) in
+        let en : t .ring ≡ _ = ap (λ (l : Storage). l .ring) (is .1 .0) in
+        let er = is .1 .1 .0 ∙ rows-then F in
+        let ec = is .1 .1 .1 ∙ counts-then F in
+        let here = place-is B in
+        rw (is .0) (
+          bank-small B,
+          (
+            rw (es, ef, ev, en, er, ec, yes, due, to, was, here, spill-then F, acts-are B (F .acted), bank-is B) refl,
+            rw (yes, due, to, was, estimate-is F, here, slot-told d held, row-told d held) refl,
+            rw yes refl,
+          ),
+        )
 
 -- ---- read
 
-module _ (S : Settings) (σ : State) (r : ℕ) (off : Bool) (buffer : List ℕ) (off-is : off ≡ readOff S (length buffer)) where
-  pub read-is : {filled : List ℕ} → filled ≡ rowBytes (S .w) (σ .store) (place S σ r) → accessed S σ r (accessNumber S σ r off) (σ .store) filled buffer ≡ read S σ r buffer
+module _ (S : Settings) (σ : State) (r : ℕ) (buffer : List ℕ) where
+  abbrev span-off : Bool
+  span-off = readOff S (length buffer)
+
+  read-is : {filled : List ℕ} → filled ≡ rowBytes (S .w) (σ .store) (place S σ r)
+      → accessed S σ r (accessNumber S σ r span-off) (σ .store) filled buffer ≡ read S σ r buffer
   unfolding read
-  read-is e = rw (off-is, e)
+  read-is e = rw e
 
-  pub read-serves : {filled given : List ℕ} {left : State} (t : Answered) → filled ≡ rowBytes (S .w) (σ .store) (place S σ r)
-      → Serves S σ r off (σ .store) filled buffer left t given
-      → (t .bank < mostBanks) × AccessPromise (read S σ r buffer) left (t .outcome) given
-  read-serves {given = given} {left} t e h =
-      subst (λ (x : Accessed). (t .bank < mostBanks) × AccessPromise x left (t .outcome) given) (read-is e) h
+  pub read-refused : {x : ℕ} {t : Answered} → t ≡ refusalOf (σ .control) x → x ≡ accessNumber S σ r span-off → x ≢ 0
+      → Serves (read S σ r buffer) (leftBy σ (σ .store) (σ .forward) (σ .reverse) (σ .rows) (σ .counts) t) t buffer
+  read-refused {t = t} is e n =
+      let left = leftBy σ (σ .store) (σ .forward) (σ .reverse) (σ .rows) (σ .counts) t in
+      subst (λ (x : Accessed). Serves x left t buffer) (read-is refl) (refused-is S σ r span-off (σ .store) _ buffer is e n)
 
-  module _ {e : ForwardEntry} {p : PhysicalRow} (T : Taken S σ r off e p) where
+  module _ {e : ForwardEntry} {p : PhysicalRow} (T : Taken S σ r span-off e p) where
+    -- what `read_row` asks of the buffer
     pub buffer-long : length buffer ≡ S .w
-    buffer-long = eqb-true (length buffer) (S .w) (not-false (eqb (length buffer) (S .w)) (sym off-is ∙ span-in T))
+    buffer-long = eqb-true (length buffer) (S .w) (not-false (eqb (length buffer) (S .w)) (span-in T))
 
-    pub filled-is : {filled : List ℕ} → filled ≡ rowBytes (S .w) (σ .store) (p .0) → filled ≡ rowBytes (S .w) (σ .store) (place S σ r)
+    filled-is : {filled : List ℕ} → filled ≡ rowBytes (S .w) (σ .store) (p .0)
+        → filled ≡ rowBytes (S .w) (σ .store) (place S σ r)
     filled-is e = e ∙ ap (λ (x : PhysicalRow). rowBytes (S .w) (σ .store) (x .0)) (T .placed)
+
+  module _ {e : ForwardEntry} {f : Found} {filled : List ℕ} (bytes : filled ≡ rowBytes (S .w) (σ .store) (f .place .0)) where
+    pub read-stays : Stays S σ r span-off e f → {t : Answered} {rows counts : List ℕ} → Stayed σ f t rows counts
+        → Serves (read S σ r buffer) (leftBy σ (σ .store) (σ .forward) (σ .reverse) rows counts t) t filled
+    read-stays H {t} {rows} {counts} is =
+        let left = leftBy σ (σ .store) (σ .forward) (σ .reverse) rows counts t in
+        subst (λ (x : Accessed). Serves x left t filled) (read-is (filled-is (stays-taken H) bytes))
+        (stay-is S σ r span-off (σ .store) filled buffer H is)
+
+    pub read-goes : {v : Verdict} → Goes S σ r span-off e f v → {t : Answered} {store forward reverse rows counts : List ℕ}
+        → Gone S σ r f v (withStore σ (σ .store)) t (storageOf store forward reverse (t .ring)) rows counts
+        → Serves (read S σ r buffer) (leftBy σ store forward reverse rows counts t) t filled
+    read-goes G {t} {store} {forward} {reverse} {rows} {counts} is =
+        let left = leftBy σ store forward reverse rows counts t in
+        subst (λ (x : Accessed). Serves x left t filled) (read-is (filled-is (goes-taken G) bytes))
+        (go-is S σ r span-off (σ .store) filled buffer G is)
 
 -- ---- write
 
-module _ (S : Settings) (σ : State) (r : ℕ) (off : Bool) (column : ℕ) (bytes : List ℕ) (off-is : off ≡ writeOff S column (length bytes)) where
-  pub write-is : {after : List ℕ} → after ≡ written (S .w) (σ .store) (place S σ r) column bytes → accessed S σ r (accessNumber S σ r off) after [] [] ≡ write S σ r column bytes
+module _ (S : Settings) (σ : State) (r column : ℕ) (bytes : List ℕ) where
+  abbrev bytes-off : Bool
+  bytes-off = writeOff S column (length bytes)
+
+  write-is : {after : List ℕ} → after ≡ written (S .w) (σ .store) (place S σ r) column bytes
+      → accessed S σ r (accessNumber S σ r bytes-off) after [] [] ≡ write S σ r column bytes
   unfolding write
-  write-is e = rw (off-is, e)
+  write-is e = rw e
 
-  pub write-serves : {after : List ℕ} {left : State} (t : Answered) → after ≡ written (S .w) (σ .store) (place S σ r) column bytes
-      → Serves S σ r off after [] [] left t []
-      → (t .bank < mostBanks) × AccessPromise (write S σ r column bytes) left (t .outcome) []
-  write-serves {left = left} t e h =
-      subst (λ (x : Accessed). (t .bank < mostBanks) × AccessPromise x left (t .outcome) []) (write-is e) h
+  pub write-refused : {x : ℕ} {t : Answered} → t ≡ refusalOf (σ .control) x → x ≡ accessNumber S σ r bytes-off → x ≢ 0
+      → Serves (write S σ r column bytes) (leftBy σ (σ .store) (σ .forward) (σ .reverse) (σ .rows) (σ .counts) t) t []
+  write-refused {t = t} is e n =
+      let left = leftBy σ (σ .store) (σ .forward) (σ .reverse) (σ .rows) (σ .counts) t in
+      subst (λ (x : Accessed). Serves x left t []) (write-is refl) (refused-is S σ r bytes-off _ [] [] is e n)
 
-  module _ {e : ForwardEntry} {p : PhysicalRow} (T : Taken S σ r off e p) where
+  module _ {e : ForwardEntry} {p : PhysicalRow} (T : Taken S σ r bytes-off e p) where
+    -- what `write_row` asks of the bytes
     pub bytes-fit : column + length bytes ≤ S .w
-    bytes-fit = ltb-false (S .w) (column + length bytes) (sym off-is ∙ span-in T)
+    bytes-fit = ltb-false (S .w) (column + length bytes) (span-in T)
 
-    pub written-is : {after : List ℕ} → after ≡ written (S .w) (σ .store) (p .0) column bytes → after ≡ written (S .w) (σ .store) (place S σ r) column bytes
-    written-is e = e ∙ ap (λ (x : PhysicalRow). written (S .w) (σ .store) (x .0) column bytes) (T .placed)
+    module _ {after : List ℕ} (is : after ≡ written (S .w) (σ .store) (p .0) column bytes) where
+      written-is : after ≡ written (S .w) (σ .store) (place S σ r) column bytes
+      written-is = is ∙ ap (λ (x : PhysicalRow). written (S .w) (σ .store) (x .0) column bytes) (T .placed)
 
-    pub written-long : {after : List ℕ} → after ≡ written (S .w) (σ .store) (p .0) column bytes → length after ≡ length (σ .store)
-    written-long e = rw e (length-written (S .w) (S .n + S .q) (σ .store) (p .0) column bytes (store-long T) (place-in T) bytes-fit)
+      pub written-long : length after ≡ length (σ .store)
+      written-long =
+          rw is (length-written (S .w) (S .n + S .q) (σ .store) (p .0) column bytes (store-long T) (place-in T) bytes-fit)
+
+  module _ {e : ForwardEntry} {f : Found} {after : List ℕ}
+      (put : after ≡ written (S .w) (σ .store) (f .place .0) column bytes) where
+    pub write-stays : Stays S σ r bytes-off e f → {t : Answered} {rows counts : List ℕ} → Stayed σ f t rows counts
+        → Serves (write S σ r column bytes) (leftBy σ after (σ .forward) (σ .reverse) rows counts t) t []
+    write-stays H {t} {rows} {counts} is =
+        let left = leftBy σ after (σ .forward) (σ .reverse) rows counts t in
+        subst (λ (x : Accessed). Serves x left t []) (write-is (written-is (stays-taken H) put))
+        (stay-is S σ r bytes-off after [] [] H is)
+
+    pub write-goes : {v : Verdict} → Goes S σ r bytes-off e f v → {t : Answered} {store forward reverse rows counts : List ℕ}
+        → Gone S σ r f v (withStore σ after) t (storageOf store forward reverse (t .ring)) rows counts
+        → Serves (write S σ r column bytes) (leftBy σ store forward reverse rows counts t) t []
+    write-goes G {t} {store} {forward} {reverse} {rows} {counts} is =
+        let left = leftBy σ store forward reverse rows counts t in
+        subst (λ (x : Accessed). Serves x left t []) (write-is (written-is (goes-taken G) put))
+        (go-is S σ r bytes-off after [] [] G is)

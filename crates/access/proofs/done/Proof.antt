@@ -7,11 +7,11 @@ use Rattle.access.proofs.done.Tie as tie
 spill-after-requires : tie.Need-spill-after-requires
 spill-after-requires c κs = search needs
 
-add-t11 : tie.Need-add-t11
-add-t11 c = search needs
+add-t7 : tie.Need-add-t7
+add-t7 c = search needs
 
 returns : tie.Need-returns
-returns c = simp (c .spill-after .ensures, add-one)
+returns c = simp (c .before .spill-after .ensures, add-one)
 
 pub done-spec : {M : Type 1} → statement M
-done-spec = tie.close (tie.spec spill-after-requires add-t11 returns)
+done-spec = tie.close (tie.spec spill-after-requires add-t7 returns)

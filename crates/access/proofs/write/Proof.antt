@@ -1,521 +1,363 @@
--- `access::write`: the refusals, the bytes, and what comes after them. Assumes nothing.
-use Prim.Native.Nat.{ℕ, _+_, _*_, _<_, _≤_}
-use mathlib.Core.Path.{_≡_, refl, sym, ap, _∙_}
-use mathlib.Core.Logic.{_≢_}
-use mathlib.Core.Bool.{Bool, true, false}
-use mathlib.Core.List.{List, []}
+-- `write`: the refusals, the bytes, and what comes after them. Each stage bundles what is known there. Assumes nothing.
+use Prim.Native.Nat.{ℕ}
 use native.Mathlib.Omega.{arith}
+use mathlib.Core.Path.{_≡_, refl, sym, _∙_}
+use mathlib.Core.Bool.{Bool}
+use mathlib.Core.List.{List}
 use lib.ListN.{length}
-use Rattle.geometry.specs.declared.Settings.{Settings}
-use Rattle.row_layout.specs.Bytes.{rowBytes, written}
-use Rattle.engine.specs.State.{State, stateOf, trackerAt, ringOf}
-use Rattle.engine.specs.Steps.{place, moves, skipped}
-use Rattle.tracking.specs.Track.{isDue}
-use Rattle.engine.specs.Ladder.{stops, accessNumber, readOff, writeOff, quarantineNumber, tickNumber}
-use Rattle.engine.proofs.Rungs.{goes-by, applies}
-use Rattle.verdict.specs.Verdicts.{quarantineVerdict}
-use Rattle.ladder.proofs.Stages.{earlyNumber, early-ends, early-goes, reverse-long, others-asked, tick-stops, tick-goes}
-use Rattle.verdict.proofs.Judged.{access-early, access-8, access-stays, access-moves, verdict-stops, verdict-goes}
-use Rattle.access.proofs.Found.{Early, Seen, Taken, row-small, bankable, bank-small, findable, end-small, acts-are, numbers-small, estimable, followable, seen, due-is, seekable, over-is, threshold-some, acts-below, place-inside, movable}
-use Rattle.access.proofs.Serves.{refused-is, stay-is, go-is, read-serves, buffer-long, filled-is, write-serves, bytes-fit, written-is, written-long}
 use borrow.Author.Needs.{needs}
+use Rattle.geometry.specs.declared.Settings.{Settings}
+use Rattle.geometry.specs.declared.ForwardEntry.{ForwardEntry}
+use Rattle.engine.specs.State.{State, stateOf}
+use Rattle.engine.specs.Ladder.{writeOff, tickNumber}
+use Rattle.ladder.proofs.Stages.{earlyNumber, reverse-long, others-asked}
+use Rattle.verdict.proofs.Judged.{access-early, access-8}
+use Rattle.access.specs.declared.Found.{Found}
+use Rattle.access.proofs.Refuses.{first-stops, others-stop, tick-0, number-is}
+use Rattle.access.proofs.Finds.{Entered, Banked, Seen, fits, row-small, bankable, bank-small, findable, end-small}
+use Rattle.access.proofs.Finds.{acts-are, estimable, followable, seekable}
+use Rattle.access.proofs.Takes.{Stays, Judged, Goes, stays-taken, last-is, goes-taken, place-inside, movable}
+use Rattle.access.proofs.Serves.{write-refused, bytes-fit, written-long, write-stays, write-goes}
 use Rattle.access.proofs.write.Statement.{statement}
 use Rattle.access.proofs.write.Tie as tie
 
--- ---- the first bank is judged
-module _ (n : tie.After-first-bank-number) where
+-- ---- what is lent
+module _ (a : tie.Start) where
   abbrev s : Settings
-  s = n .before .before .before .before .before .before .before .before .before .before .before .before .before .before .args .s
+  s = a .args .s
 
   abbrev σ : State
   σ =
-      let a = n .before .before .before .before .before .before .before .before .before .before .before .before .before .before .args in
-      stateOf (a .store .now) (a .forward .now) (a .reverse .now) (a .rows .now) (a .counts .now) (a .t1)
+      let l = a .args in
+      stateOf (l .store .now) (l .forward .now) (l .reverse .now) (l .rows .now) (l .counts .now) (l .t1)
 
   abbrev r : ℕ
-  r = n .before .before .before .before .before .before .before .before .before .before .before .before .before .before .args .row
+  r = a .args .row
 
-  abbrev lentOff : Bool
-  lentOff = let a = n .before .before .before .before .before .before .before .before .before .before .before .before .before .before .args in writeOff (a .s) (a .column) (length (a .bytes .now))
+  abbrev column : ℕ
+  column = a .args .column
 
--- ---- and the others
-module _ (m : tie.After-others-unsound) where
-  abbrev n₁ : tie.After-first-bank-number
-  n₁ = m .before .before .before
+  abbrev bytes : List ℕ
+  bytes = a .args .bytes .now
 
-  -- 1 to 4
-  others-told : (found : Bool) → m .others-unsound .result ≡ found → stops found 4 ≡ tickNumber (s n₁) (σ n₁)
-  others-told found e =
-      ap (λ (x : Bool). stops x 4) (sym e) ∙ tick-goes (s n₁) (σ n₁) (n₁ .first-bank-number .ensures) (m .before .before .if1 .left) (m .others-unsound .ensures)
-
--- ---- once 1 to 7 are judged
-module _ (k : tie.After-row-number) where
-  abbrev m₁ : tie.After-others-unsound
-  m₁ = k .before .before .before .before .before .before
-
-  abbrev n₂ : tie.After-first-bank-number
-  n₂ = m₁ .before .before .before
-
+  -- whether 6 applies
   abbrev off : Bool
-  off = k .before .before .before .before .write-off .result
+  off = writeOff s column (length bytes)
 
-  tick-0 : 0 ≡ tickNumber (s n₂) (σ n₂)
-  tick-0 = sym (goes-by 4 refl) ∙ others-told m₁ false (k .before .before .before .before .before .if2 .left)
+-- ---- the first bank is judged
+module _ (n : tie.After-first-bank-number) where
+  abbrev start : tie.Start
+  start = n .before .before .before .before .before .before .before .before .before .before .before .before .before .before
 
-  number-is : k .row-number .result ≡ earlyNumber (s n₂) (σ n₂) (r n₂) off
-  number-is = early-goes (s n₂) (σ n₂) (r n₂) off tick-0 refl (k .before .before .entry-of .ensures) (k .row-number .ensures)
+-- ---- past 1 to 4
+module _ (q : tie.Else2) where
+  abbrev at-first : tie.After-first-bank-number
+  at-first = q .before .before .before .before
+
+  abbrev start₂ : tie.Start
+  start₂ = start at-first
+
+  ticked : 0 ≡ tickNumber (s start₂) (σ start₂)
+  ticked =
+      tick-0 (s start₂) (σ start₂) (at-first .first-bank-number .ensures) (q .before .before .before .if1 .left)
+      (q .before .others-unsound .ensures) (q .if2 .left)
+
+-- ---- 5 to 7 are judged
+module _ (k : tie.After-row-number) where
+  abbrev at-tick : tie.Else2
+  at-tick = k .before .before .before .before .before
+
+  abbrev start₃ : tie.Start
+  start₃ = start₂ at-tick
+
+  abbrev entry : ForwardEntry
+  entry = k .before .before .entry-of .result
+
+  numbered : k .row-number .result ≡ earlyNumber (s start₃) (σ start₃) (r start₃) (off start₃)
+  numbered =
+      number-is (s start₃) (σ start₃) (r start₃) (ticked at-tick) (k .before .before .before .before .write-off .ensures)
+      (k .before .before .entry-of .ensures) (k .row-number .ensures)
 
 -- ---- past them
 module _ (q : tie.Else3) where
-  abbrev k₁ : tie.After-row-number
-  k₁ = q .before
+  entered : let a = start₃ (q .before) in Entered (s a) (σ a) (r a) (off a) (entry (q .before))
+  entered =
+      record {
+        early-0 = sym (numbered (q .before)) ∙ q .if3 .left;
+        entry-is = q .before .before .before .entry-of .ensures;
+      }
 
-  early : Early (s (n₂ k₁)) (σ (n₂ k₁)) (r (n₂ k₁)) (off k₁)
-  early = record { is-0 = sym (number-is k₁) ∙ q .if3 .left }
+-- ---- the bank of the place is found
+module _ (b : tie.After-bank-of) where
+  abbrev at-row : tie.After-row-number
+  at-row = b .before .before .before
 
--- ---- step 2 is found
+  abbrev start₄ : tie.Start
+  start₄ = start₃ at-row
+
+  banked : let p = b .before .place .result in
+      Banked (s start₄) (σ start₄) (r start₄) (off start₄) (entry at-row) p (b .bank-of .result)
+  banked =
+      record {
+        entered = entered (b .before .before);
+        placed = b .before .place .ensures;
+        banked = b .bank-of .ensures;
+      }
+
+-- ---- past 8, and step 2 is found
 module _ (w : tie.After-estimate) where
-  abbrev q₁ : tie.Else3
-  q₁ = w .before .before .before .before .before .before .before .before .before .before .before .before .before .before
+  abbrev at-numbers : tie.After-number-of2
+  at-numbers = w .before .before .before .before .before .before .before .before
 
-  abbrev k₂ : tie.After-row-number
-  k₂ = k₁ q₁
+  abbrev at-bank : tie.After-bank-of
+  at-bank = at-numbers .before .before .before .before
 
-  abbrev n₃ : tie.After-first-bank-number
-  n₃ = n₂ k₂
+  abbrev start₅ : tie.Start
+  start₅ = start₄ at-bank
 
-  found : Seen (s n₃) (σ n₃) (r n₃) (w .before .before .before .before .before .before .before .before .before .before .before .before .before .place .result) (w .before .before .before .before .before .before .before .before .before .before .before .before .bank-of .result) (w .before .before .before .before .before .before .before .before .before .number-of .result) (w .before .before .before .before .before .before .before .before .number-of2 .result) (w .before .before .find .result) (w .estimate .result)
-  found =
-      seen (early q₁) (k₂ .before .before .entry-of .ensures) (w .before .before .before .before .before .before .before .before .before .before .before .before .before .place .ensures) (w .before .before .before .before .before .before .before .before .before .before .before .before .bank-of .ensures)
-      (w .before .before .before .before .before .before .before .before .before .number-of .ensures) (w .before .before .before .before .before .before .before .before .number-of2 .ensures) (w .before .before .find .ensures) (w .estimate .ensures)
+  abbrev f : Found
+  f =
+      record {
+        place = at-bank .before .place .result;
+        bank = at-bank .bank-of .result;
+        spill = at-numbers .before .number-of .result;
+        acts = at-numbers .number-of2 .result;
+        entry = w .before .before .find .result;
+        estimate = w .estimate .result;
+      }
 
-  -- 8 does not apply
-  more : trackerAt (s n₃) (σ n₃) (place (s n₃) (σ n₃) (r n₃)) .acts ≢ s n₃ .l
-  more e = w .before .before .before .before .before .before .if4 .left (found .acts-are ∙ e)
-
-  due-moves : isDue (s n₃ .a) (w .estimate .result) ≡ moves (s n₃) (σ n₃) (r n₃)
-  due-moves = ap (isDue (s n₃ .a)) (found .estimate-is)
+  seen : Seen (s start₅) (σ start₅) (r start₅) (off start₅) (entry (at-row at-bank)) f
+  seen =
+      record {
+        banked = banked at-bank;
+        spilled = at-numbers .before .number-of .ensures;
+        acted = at-numbers .number-of2 .ensures;
+        more = w .before .before .before .before .before .before .if4 .left;
+        found = w .before .before .find .ensures;
+        estimated = w .estimate .ensures;
+      }
 
 -- ---- the row stays
 module _ (x : tie.Else5) where
-  abbrev w₁ : tie.After-estimate
-  w₁ = x .before .before
+  abbrev at-stay : tie.After-estimate
+  at-stay = x .before .before
 
-  stays : moves (s (n₃ w₁)) (σ (n₃ w₁)) (r (n₃ w₁)) ≡ false
-  stays = sym (due-moves w₁) ∙ sym (x .before .is-due .ensures) ∙ x .if5 .left
-
-  stays-0 : accessNumber (s (n₃ w₁)) (σ (n₃ w₁)) (r (n₃ w₁)) (off (k₂ w₁)) ≡ 0
-  stays-0 = access-stays (s (n₃ w₁)) (σ (n₃ w₁)) (r (n₃ w₁)) (off (k₂ w₁)) (early (q₁ w₁) .is-0) (more w₁) stays
-
-  stays-taken : Taken (s (n₃ w₁)) (σ (n₃ w₁)) (r (n₃ w₁)) (off (k₂ w₁)) (k₂ w₁ .before .before .entry-of .result) (w₁ .before .before .before .before .before .before .before .before .before .before .before .before .before .place .result)
-  stays-taken = record { number-0 = stays-0; entered = k₂ w₁ .before .before .entry-of .ensures; placed = found w₁ .placed }
+  stays-here : let a = start₅ at-stay in Stays (s a) (σ a) (r a) (off a) (entry (at-row (at-bank at-stay))) (f at-stay)
+  stays-here = record { seen = seen at-stay; not-due = sym (x .before .is-due .ensures) ∙ x .if5 .left }
 
 -- ---- it is to be quarantined
 module _ (z : tie.After-quarantine) where
-  abbrev w₂ : tie.After-estimate
-  w₂ = z .before .before .before .before .before .before .before
+  abbrev at-estimate : tie.After-estimate
+  at-estimate = z .before .before .before .before .before .before .before
 
-  due : isDue (s (n₃ w₂) .a) (w₂ .estimate .result) ≡ true
-  due = sym (z .before .before .before .before .before .before .is-due .ensures) ∙ z .before .before .before .before .before .if5 .taken
-
-  goes : moves (s (n₃ w₂)) (σ (n₃ w₂)) (r (n₃ w₂)) ≡ true
-  goes = sym (due-moves w₂) ∙ due
-
-  verdict-is : z .quarantine .result
-      ≡ quarantineVerdict (s (n₃ w₂)) (ringOf (σ (n₃ w₂) .control)) (σ (n₃ w₂) .forward) (σ (n₃ w₂) .reverse) (skipped (s (n₃ w₂)) (σ (n₃ w₂)) (r (n₃ w₂)))
-  verdict-is =
-      z .quarantine .ensures
-      ∙ ap (quarantineVerdict (s (n₃ w₂)) (ringOf (σ (n₃ w₂) .control)) (σ (n₃ w₂) .forward) (σ (n₃ w₂) .reverse))
-      (over-is (early (q₁ w₂)) (k₂ w₂ .before .before .entry-of .ensures) (w₂ .before .before .before .before .before .before .before .before .before .before .before .before .before .place .ensures) (w₂ .before .before .before .before .before .before .before .before .before .before .before .before .bank-of .ensures)
-      (w₂ .before .before .before .before .before .before .before .before .before .number-of .ensures) (w₂ .before .before .before .before .before .before .before .before .number-of2 .ensures) (w₂ .before .before .find .ensures) (w₂ .estimate .ensures) due)
-
-  last-is : z .quarantine .result .number ≡ accessNumber (s (n₃ w₂)) (σ (n₃ w₂)) (r (n₃ w₂)) (off (k₂ w₂))
-  last-is =
-      verdict-stops (s (n₃ w₂)) (ringOf (σ (n₃ w₂) .control)) (σ (n₃ w₂) .forward) (σ (n₃ w₂) .reverse) (skipped (s (n₃ w₂)) (σ (n₃ w₂)) (r (n₃ w₂))) (z .quarantine .result) verdict-is
-      ∙ access-moves (s (n₃ w₂)) (σ (n₃ w₂)) (r (n₃ w₂)) (off (k₂ w₂)) (early (q₁ w₂) .is-0) (more w₂) goes
+  judged : let a = start₅ at-estimate in
+      Judged (s a) (σ a) (r a) (off a) (entry (at-row (at-bank at-estimate))) (f at-estimate) (z .quarantine .result)
+  judged =
+      let t = z .before .before .before .before .before in
+      record {
+        seen = seen at-estimate;
+        due = sym (t .before .is-due .ensures) ∙ t .if5 .taken;
+        told = z .quarantine .ensures;
+      }
 
 -- ---- and is
 module _ (y : tie.Else6) where
-  abbrev z₁ : tie.After-quarantine
-  z₁ = y .before
+  abbrev start₆ : tie.Start
+  start₆ = start₅ (at-estimate (y .before))
 
-  abbrev w₃ : tie.After-estimate
-  w₃ = w₂ z₁
+  goes-there : let w = at-estimate (y .before) in
+      Goes (s start₆) (σ start₆) (r start₆) (off start₆) (entry (at-row (at-bank w))) (f w) (y .before .quarantine .result)
+  goes-there = record { judged = judged (y .before); passes = y .if6 .left }
 
-  goes-taken : Taken (s (n₃ w₃)) (σ (n₃ w₃)) (r (n₃ w₃)) (off (k₂ w₃)) (k₂ w₃ .before .before .entry-of .result) (w₃ .before .before .before .before .before .before .before .before .before .before .before .before .before .place .result)
-  goes-taken = record { number-0 = sym (last-is z₁) ∙ y .if6 .left; entered = k₂ w₃ .before .before .entry-of .ensures; placed = found w₃ .placed }
-
-element-copy-out-first-bank-number : tie.Need-element-copy-out-first-bank-number
-element-copy-out-first-bank-number c = search needs
-
-element-copy-out-first-bank-number-2 : tie.Need-element-copy-out-first-bank-number-2
-element-copy-out-first-bank-number-2 c = search needs
-
-first-bank-number-requires : tie.Need-first-bank-number-requires
-first-bank-number-requires c κs = search needs
-
-refused-requires : tie.Need-refused-requires
-refused-requires c κs = search needs
-
-same-length : tie.Need-same-length
-same-length c = search needs
-
-same-length-2 : tie.Need-same-length-2
-same-length-2 c = search needs
-
-same-length-3 : tie.Need-same-length-3
-same-length-3 c = search needs
-
-same-length-4 : tie.Need-same-length-4
-same-length-4 c = search needs
-
-same-length-5 : tie.Need-same-length-5
-same-length-5 c = search needs
+-- ---- what is left to show; `search` finds the rest: what refusals ask, and that each slice keeps its length
 
 returns : tie.Need-returns
 returns c =
     let n = c .before .before in
-    let stops = tick-stops (s n) (σ n) (n .first-bank-number .ensures) (c .before .if1 .taken) in
-    write-serves (s n) (σ n) (r n) (lentOff n) (n .before .before .before .before .before .before .before .before .before .before .before .before .before .before .args .column) (n .before .before .before .before .before .before .before .before .before .before .before .before .before .before .args .bytes .now) refl (c .refused .result) refl
-    (refused-is (s n) (σ n) (r n) (lentOff n) (written (s n .w) (σ n .store) (place (s n) (σ n) (r n)) (n .before .before .before .before .before .before .before .before .before .before .before .before .before .before .args .column) (n .before .before .before .before .before .before .before .before .before .before .before .before .before .before .args .bytes .now)) [] [] (c .refused .ensures) (access-early (s n) (σ n) (r n) (lentOff n) _ (early-ends (s n) (σ n) (r n) (lentOff n) stops (c .before .if1 .taken)) (c .before .if1 .taken)) (c .before .if1 .taken))
+    let a = start n in
+    let met = c .before .if1 .taken in
+    write-refused (s a) (σ a) (r a) (column a) (bytes a) (c .refused .ensures)
+    (first-stops (s a) (σ a) (n .first-bank-number .ensures) (r a) (off a) met) met
 
 others-unsound-requires : tie.Need-others-unsound-requires
 others-unsound-requires c κs =
     let n = c .before .before in
-    others-asked (s n) (σ n) (n .first-bank-number .ensures) (c .before .if1 .left)
-
-refused-requires-2 : tie.Need-refused-requires-2
-refused-requires-2 c κs = search needs
-
-same-length-6 : tie.Need-same-length-6
-same-length-6 c = search needs
-
-same-length-7 : tie.Need-same-length-7
-same-length-7 c = search needs
-
-same-length-8 : tie.Need-same-length-8
-same-length-8 c = search needs
-
-same-length-9 : tie.Need-same-length-9
-same-length-9 c = search needs
-
-same-length-10 : tie.Need-same-length-10
-same-length-10 c = search needs
+    others-asked (s (start n)) (σ (start n)) (n .first-bank-number .ensures) (c .before .if1 .left)
 
 returns-2 : tie.Need-returns-2
 returns-2 c =
     let m = c .before .before in
-    let n = n₁ m in
-    let stops = sym (applies 4 refl) ∙ others-told m true (c .before .if2 .taken) in
-    write-serves (s n) (σ n) (r n) (lentOff n) (n .before .before .before .before .before .before .before .before .before .before .before .before .before .before .args .column) (n .before .before .before .before .before .before .before .before .before .before .before .before .before .before .args .bytes .now) refl (c .refused2 .result) refl
-    (refused-is (s n) (σ n) (r n) (lentOff n) (written (s n .w) (σ n .store) (place (s n) (σ n) (r n)) (n .before .before .before .before .before .before .before .before .before .before .before .before .before .before .args .column) (n .before .before .before .before .before .before .before .before .before .before .before .before .before .before .args .bytes .now)) [] [] (c .refused2 .ensures) (access-early (s n) (σ n) (r n) (lentOff n) _ (early-ends (s n) (σ n) (r n) (lentOff n) stops (λ z. omega arith)) (λ z. omega arith)) (λ z. omega arith))
-
-write-off-requires : tie.Need-write-off-requires
-write-off-requires c κs = search needs
-
-entry-of-requires : tie.Need-entry-of-requires
-entry-of-requires c κs = search needs
+    let n = m .before .before .before in
+    let a = start n in
+    let four =
+    others-stop (s a) (σ a) (n .first-bank-number .ensures) (m .before .before .if1 .left)
+    (m .others-unsound .ensures) (r a) (off a) (c .before .if2 .taken) in
+    write-refused (s a) (σ a) (r a) (column a) (bytes a) (c .refused2 .ensures) four (λ z. omega arith)
 
 row-number-requires : tie.Need-row-number-requires
 row-number-requires c κs =
-    let m = c .before .before .before .before .before in
-    reverse-long (s (n₁ m)) (σ (n₁ m)) (sym (goes-by 4 refl) ∙ others-told m false (c .before .before .before .before .if2 .left)) refl
-
-refused-requires-3 : tie.Need-refused-requires-3
-refused-requires-3 c κs = search needs
-
-same-length-11 : tie.Need-same-length-11
-same-length-11 c = search needs
-
-same-length-12 : tie.Need-same-length-12
-same-length-12 c = search needs
-
-same-length-13 : tie.Need-same-length-13
-same-length-13 c = search needs
-
-same-length-14 : tie.Need-same-length-14
-same-length-14 c = search needs
-
-same-length-15 : tie.Need-same-length-15
-same-length-15 c = search needs
+    let q = c .before .before .before .before in
+    reverse-long (s (start₂ q)) (σ (start₂ q)) (ticked q) refl
 
 returns-3 : tie.Need-returns-3
 returns-3 c =
     let k = c .before .before in
-    let n = n₂ k in
-    write-serves (s n) (σ n) (r n) (off k) (n .before .before .before .before .before .before .before .before .before .before .before .before .before .before .args .column) (n .before .before .before .before .before .before .before .before .before .before .before .before .before .before .args .bytes .now) (k .before .before .before .before .write-off .ensures) (c .refused3 .result) refl
-    (refused-is (s n) (σ n) (r n) (off k) (written (s n .w) (σ n .store) (place (s n) (σ n) (r n)) (n .before .before .before .before .before .before .before .before .before .before .before .before .before .before .args .column) (n .before .before .before .before .before .before .before .before .before .before .before .before .before .before .args .bytes .now)) [] [] (c .refused3 .ensures) (access-early (s n) (σ n) (r n) (off k) _ (number-is k) (c .before .if3 .taken)) (c .before .if3 .taken))
+    let a = start₃ k in
+    let met = c .before .if3 .taken in
+    write-refused (s a) (σ a) (r a) (column a) (bytes a) (c .refused3 .ensures)
+    (access-early (s a) (σ a) (r a) (off a) _ (numbered k) met) met
 
-cast-t60 : tie.Need-cast-t60
-cast-t60 c = omega (arith, row-small (early c))
-
-place-requires : tie.Need-place-requires
-place-requires c κs = search needs
+cast-t58 : tie.Need-cast-t58
+cast-t58 c = omega (arith, row-small (entered c))
 
 bank-of-requires : tie.Need-bank-of-requires
-bank-of-requires c κs = bankable (early (c .before)) (c .before .before .before .before .entry-of .ensures) (c .place .ensures)
+bank-of-requires c κs = bankable (entered (c .before)) (c .place .ensures)
 
 number-of-requires : tie.Need-number-of-requires
-number-of-requires c κs = bank-small (early (c .before .before .before .before)) (c .before .before .before .before .before .before .before .entry-of .ensures) (c .before .before .before .place .ensures) (c .before .before .bank-of .ensures)
+number-of-requires c κs = bank-small (banked (c .before .before))
 
 number-of-requires-2 : tie.Need-number-of-requires-2
-number-of-requires-2 c κs = bank-small (early (c .before .before .before .before .before)) (c .before .before .before .before .before .before .before .before .entry-of .ensures) (c .before .before .before .before .place .ensures) (c .before .before .before .bank-of .ensures)
-
-refused-requires-4 : tie.Need-refused-requires-4
-refused-requires-4 c κs = search needs
-
-same-length-16 : tie.Need-same-length-16
-same-length-16 c = search needs
-
-same-length-17 : tie.Need-same-length-17
-same-length-17 c = search needs
-
-same-length-18 : tie.Need-same-length-18
-same-length-18 c = search needs
-
-same-length-19 : tie.Need-same-length-19
-same-length-19 c = search needs
-
-same-length-20 : tie.Need-same-length-20
-same-length-20 c = search needs
+number-of-requires-2 c κs = bank-small (banked (c .before .before .before))
 
 returns-4 : tie.Need-returns-4
 returns-4 c =
-    let k = c .before .before .before .before .before .before .before .before .before .before in
-    let n = n₂ k in
-    let full = sym (acts-are (early (c .before .before .before .before .before .before .before .before .before)) (c .before .before .before .before .before .before .before .before .before .before .before .before .entry-of .ensures) (c .before .before .before .before .before .before .before .before .place .ensures) (c .before .before .before .before .before .before .before .bank-of .ensures) (c .before .before .before .before .number-of .ensures) (c .before .before .before .number-of2 .ensures)) ∙ c .before .if4 .taken in
-    write-serves (s n) (σ n) (r n) (off k) (n .before .before .before .before .before .before .before .before .before .before .before .before .before .before .args .column) (n .before .before .before .before .before .before .before .before .before .before .before .before .before .before .args .bytes .now) (k .before .before .before .before .write-off .ensures) (c .refused4 .result) refl
-    (refused-is (s n) (σ n) (r n) (off k) (written (s n .w) (σ n .store) (place (s n) (σ n) (r n)) (n .before .before .before .before .before .before .before .before .before .before .before .before .before .before .args .column) (n .before .before .before .before .before .before .before .before .before .before .before .before .before .before .args .bytes .now)) [] [] (c .refused4 .ensures) (access-8 (s n) (σ n) (r n) (off k) (early (c .before .before .before .before .before .before .before .before .before) .is-0) full) (λ z. omega arith))
-
-cast-k : tie.Need-cast-k
-cast-k c = search needs
+    let b = c .before .before .before .before .before .before .before in
+    let a = start₄ b in
+    let full = sym (acts-are (banked b) (c .before .before .before .number-of2 .ensures)) ∙ c .before .if4 .taken in
+    let eight = access-8 (s a) (σ a) (r a) (off a) (banked b .entered .early-0) full in
+    write-refused (s a) (σ a) (r a) (column a) (bytes a) (c .refused4 .ensures) eight (λ z. omega arith)
 
 find-requires : tie.Need-find-requires
-find-requires c κs = findable (early (c .before .before .before .before .before .before .before .before .before .before .before)) (c .before .before .before .before .before .before .before .before .before .before .before .before .before .before .entry-of .ensures) (c .before .before .before .before .before .before .before .before .before .before .place .ensures) (c .before .before .before .before .before .before .before .before .before .bank-of .ensures)
+find-requires c κs = findable (banked (c .before .before .before .before .before .before .before .before .before))
 
 mul-estimate : tie.Need-mul-estimate
-mul-estimate c = omega (arith, end-small (early (c .before .before .before .before .before .before .before .before .before .before .before .before)) (c .before .before .before .before .before .before .before .before .before .before .before .before .before .before .before .entry-of .ensures) (c .before .before .before .before .before .before .before .before .before .before .before .place .ensures) (c .before .before .before .before .before .before .before .before .before .before .bank-of .ensures))
+mul-estimate c =
+    let b = c .before .before .before .before .before .before .before .before .before .before in
+    omega (arith, end-small (banked b))
 
 add-estimate : tie.Need-add-estimate
-add-estimate c = omega (arith, end-small (early (c .before .before .before .before .before .before .before .before .before .before .before .before)) (c .before .before .before .before .before .before .before .before .before .before .before .before .before .before .before .entry-of .ensures) (c .before .before .before .before .before .before .before .before .before .before .before .place .ensures) (c .before .before .before .before .before .before .before .before .before .before .bank-of .ensures))
+add-estimate c =
+    let b = c .before .before .before .before .before .before .before .before .before .before in
+    omega (arith, end-small (banked b))
 
 estimate-requires : tie.Need-estimate-requires
-estimate-requires c κs = estimable (early (c .before .before .before .before .before .before .before .before .before .before .before .before .before)) (c .before .before .before .before .before .before .before .before .before .before .before .before .before .before .before .before .entry-of .ensures) (c .before .before .before .before .before .before .before .before .before .before .before .before .place .ensures) (c .before .before .before .before .before .before .before .before .before .before .before .bank-of .ensures) (c .before .before .before .before .before .before .before .before .number-of .ensures) (c .before .before .before .before .before .before .before .number-of2 .ensures) (c .before .find .ensures)
+estimate-requires c κs =
+    let g = c .before in
+    let b = g .before .before .before .before .before .before .before .before .before .before in
+    estimable (banked b) (g .before .before .before .before .before .before .before .number-of .ensures) (g .find .ensures)
 
 is-due-requires : tie.Need-is-due-requires
-is-due-requires c κs = threshold-some (early (c .before .before .before .before .before .before .before .before .before .before .before .before .before .before))
+is-due-requires c κs =
+    let b = c .before .before .before .before .before .before .before .before .before .before .before .before in
+    fits (banked b .entered) .ranges .a-low
 
 quarantine-requires : tie.Need-quarantine-requires
 quarantine-requires c κs =
-    let due = sym (c .before .before .before .before .before .is-due .ensures) ∙ c .before .before .before .before .if5 .taken in
-    seekable (early (c .before .before .before .before .before .before .before .before .before .before .before .before .before .before .before .before .before .before .before .before)) (c .before .before .before .before .before .before .before .before .before .before .before .before .before .before .before .before .before .before .before .before .before .before .before .entry-of .ensures) (c .before .before .before .before .before .before .before .before .before .before .before .before .before .before .before .before .before .before .before .place .ensures) (c .before .before .before .before .before .before .before .before .before .before .before .before .before .before .before .before .before .before .bank-of .ensures) (c .before .before .before .before .before .before .before .before .before .before .before .before .before .before .before .number-of .ensures) (c .before .before .before .before .before .before .before .before .before .before .before .before .before .before .number-of2 .ensures) (c .before .before .before .before .before .before .before .before .find .ensures) (c .before .before .before .before .before .before .estimate .ensures) due
-
-refused-requires-5 : tie.Need-refused-requires-5
-refused-requires-5 c κs = search needs
-
-same-length-21 : tie.Need-same-length-21
-same-length-21 c = search needs
-
-same-length-22 : tie.Need-same-length-22
-same-length-22 c = search needs
-
-same-length-23 : tie.Need-same-length-23
-same-length-23 c = search needs
-
-same-length-24 : tie.Need-same-length-24
-same-length-24 c = search needs
-
-same-length-25 : tie.Need-same-length-25
-same-length-25 c = search needs
+    let t = c .before .before .before .before in
+    seekable (seen (t .before .before)) (sym (t .before .is-due .ensures) ∙ t .if5 .taken)
 
 returns-5 : tie.Need-returns-5
 returns-5 c =
     let z = c .before .before in
-    let k = k₂ (w₂ z) in
-    let n = n₃ (w₂ z) in
-    write-serves (s n) (σ n) (r n) (off k) (n .before .before .before .before .before .before .before .before .before .before .before .before .before .before .args .column) (n .before .before .before .before .before .before .before .before .before .before .before .before .before .before .args .bytes .now) (k .before .before .before .before .write-off .ensures) (c .refused5 .result) refl
-    (refused-is (s n) (σ n) (r n) (off k) (written (s n .w) (σ n .store) (place (s n) (σ n) (r n)) (n .before .before .before .before .before .before .before .before .before .before .before .before .before .before .args .column) (n .before .before .before .before .before .before .before .before .before .before .before .before .before .before .args .bytes .now)) [] [] (c .refused5 .ensures) (last-is z) (c .before .if6 .taken))
-
-cast-write-row : tie.Need-cast-write-row
-cast-write-row c = search needs
+    let a = start₅ (at-estimate z) in
+    write-refused (s a) (σ a) (r a) (column a) (bytes a) (c .refused5 .ensures) (last-is (judged z)) (c .before .if6 .taken)
 
 write-row-requires : tie.Need-write-row-requires
 write-row-requires c κs =
-    let y = c .before .before .before .before in
-    let k = k₂ (w₃ y) in
-    let n = n₃ (w₃ y) in
-    (bytes-fit (s n) (σ n) (r n) (off k) (n .before .before .before .before .before .before .before .before .before .before .before .before .before .before .args .column) (n .before .before .before .before .before .before .before .before .before .before .before .before .before .before .args .bytes .now) (k .before .before .before .before .write-off .ensures) (goes-taken y), place-inside (goes-taken y))
+    let y = c .before .before in
+    let a = start₆ y in
+    let taken = goes-taken (goes-there y) in
+    (bytes-fit (s a) (σ a) (r a) (column a) (bytes a) taken, place-inside taken)
 
-follow-requires : tie.Need-follow-requires
-follow-requires c κs = followable (early (c .before .before .before .before .before .before .before .before .before .before .before .before .before .before .before .before .before .before .before .before .before .before .before .before .before .before .before .before .before .before .before)) (c .before .before .before .before .before .before .before .before .before .before .before .before .before .before .before .before .before .before .before .before .before .before .before .before .before .before .before .before .before .before .before .before .before .before .entry-of .ensures) (c .before .before .before .before .before .before .before .before .before .before .before .before .before .before .before .before .before .before .before .before .before .before .before .before .before .before .before .before .before .before .place .ensures) (c .before .before .before .before .before .before .before .before .before .before .before .before .before .before .before .before .before .before .before .before .before .before .before .before .before .before .before .before .before .bank-of .ensures) (c .before .before .before .before .before .before .before .before .before .before .before .before .before .before .before .before .before .before .before .before .before .before .before .before .before .before .number-of .ensures) (c .before .before .before .before .before .before .before .before .before .before .before .before .before .before .before .before .before .before .before .before .before .before .before .before .before .number-of2 .ensures) (c .before .before .before .before .before .before .before .before .before .before .before .before .before .before .before .before .before .before .before .find .ensures) (c .before .before .before .before .before .before .before .before .before .before .before .before .before .before .before .before .before .estimate .ensures)
+cast-t83 : tie.Need-cast-t83
+cast-t83 c =
+    let y = c .before .before .before .before .before in
+    omega (arith, row-small (seen (at-estimate (y .before)) .banked .entered))
 
-cast-t89 : tie.Need-cast-t89
-cast-t89 c = omega (arith, row-small (early (c .before .before .before .before .before .before .before .before .before .before .before .before .before .before .before .before .before .before .before .before .before .before .before .before .before .before .before .before .before .before .before .before .before .before .before .before)))
-
-relocate-requires : tie.Need-relocate-requires
-relocate-requires c κs =
-    let y = c .before .before .before .before .before .before .before .before .before .before .before .before .before .before .before .before .before in
-    let k = k₂ (w₃ y) in
-    let n = n₃ (w₃ y) in
-    let there = verdict-goes (s n) (ringOf (σ n .control)) (σ n .forward) (σ n .reverse) (skipped (s n) (σ n) (r n)) (z₁ y .quarantine .result) (verdict-is (z₁ y)) (y .if6 .left) in
-    movable (goes-taken y) (goes (z₁ y)) (there .1) (there .2) (there .3) _ (written-long (s n) (σ n) (r n) (off k) (n .before .before .before .before .before .before .before .before .before .before .before .before .before .before .args .column) (n .before .before .before .before .before .before .before .before .before .before .before .before .before .before .args .bytes .now) (k .before .before .before .before .write-off .ensures) (goes-taken y) (c .before .before .before .before .before .before .before .before .before .before .before .before .write-row .ensures))
-
-cast-done : tie.Need-cast-done
-cast-done c = search needs
-
-cast-done-2 : tie.Need-cast-done-2
-cast-done-2 c = search needs
-
-done-requires : tie.Need-done-requires
-done-requires c κs =
-    let y = c .before .before .before .before .before .before .before .before .before .before .before .before .before .before .before .before .before .before .before .before .before .before .before .before .before .before in
-    (numbers-small (early (c .before .before .before .before .before .before .before .before .before .before .before .before .before .before .before .before .before .before .before .before .before .before .before .before .before .before .before .before .before .before .before .before .before .before .before .before .before .before .before .before .before .before .before .before .before .before .before .before)) (c .before .before .before .before .before .before .before .before .before .before .before .before .before .before .before .before .before .before .before .before .before .before .before .before .before .before .before .before .before .before .before .before .before .before .before .before .before .before .before .before .before .before .before .before .before .before .before .before .before .before .before .entry-of .ensures) (c .before .before .before .before .before .before .before .before .before .before .before .before .before .before .before .before .before .before .before .before .before .before .before .before .before .before .before .before .before .before .before .before .before .before .before .before .before .before .before .before .before .before .before .before .before .before .before .place .ensures) (c .before .before .before .before .before .before .before .before .before .before .before .before .before .before .before .before .before .before .before .before .before .before .before .before .before .before .before .before .before .before .before .before .before .before .before .before .before .before .before .before .before .before .before .before .before .before .bank-of .ensures) (c .before .before .before .before .before .before .before .before .before .before .before .before .before .before .before .before .before .before .before .before .before .before .before .before .before .before .before .before .before .before .before .before .before .before .before .before .before .before .before .before .before .before .before .number-of .ensures) (c .before .before .before .before .before .before .before .before .before .before .before .before .before .before .before .before .before .before .before .before .before .before .before .before .before .before .before .before .before .before .before .before .before .before .before .before .before .before .before .before .before .before .number-of2 .ensures) .0, omega (arith, found (w₃ y) .acts-are, acts-below (goes-taken y)))
-
-same-length-26 : tie.Need-same-length-26
-same-length-26 c = c .before .before .before .before .before .before .before .before .before .relocate .kept .1 .1 .1 .1 .1 .1 .1 .1 .0 ∙ c .before .before .before .before .before .before .before .before .before .before .before .before .before .before .before .before .before .before .before .before .before .before .write-row .kept .0
-
-same-length-27 : tie.Need-same-length-27
-same-length-27 c = search needs
-
-same-length-28 : tie.Need-same-length-28
-same-length-28 c = search needs
-
-same-length-29 : tie.Need-same-length-29
-same-length-29 c = search needs
-
-same-length-30 : tie.Need-same-length-30
-same-length-30 c = search needs
+go-requires : tie.Need-go-requires
+go-requires c κs =
+    let y = c .before .before .before .before .before .before .before .before .before .before in
+    let a = start₆ y in
+    let put = c .before .before .before .before .before .before .before .write-row .ensures in
+    let long = written-long (s a) (σ a) (r a) (column a) (bytes a) (goes-taken (goes-there y)) put in
+    (followable (goes-there y .judged .seen), movable (goes-there y) _ long)
 
 returns-6 : tie.Need-returns-6
 returns-6 c =
-    let y = c .before .before .before .before .before .before .before .before .before .before .before .before .before .before .before .before .before .before .before .before .before .before .before .before .before .before .before in
-    let k = k₂ (w₃ y) in
-    let n = n₃ (w₃ y) in
-    let there = verdict-goes (s n) (ringOf (σ n .control)) (σ n .forward) (σ n .reverse) (skipped (s n) (σ n) (r n)) (z₁ y .quarantine .result) (verdict-is (z₁ y)) (y .if6 .left) in
-    write-serves (s n) (σ n) (r n) (off k) (n .before .before .before .before .before .before .before .before .before .before .before .before .before .before .args .column) (n .before .before .before .before .before .before .before .before .before .before .before .before .before .before .args .bytes .now) (k .before .before .before .before .write-off .ensures) (c .done .result) (written-is (s n) (σ n) (r n) (off k) (n .before .before .before .before .before .before .before .before .before .before .before .before .before .before .args .column) (n .before .before .before .before .before .before .before .before .before .before .before .before .before .before .args .bytes .now) (k .before .before .before .before .write-off .ensures) (goes-taken y) (c .before .before .before .before .before .before .before .before .before .before .before .before .before .before .before .before .before .before .before .before .before .before .write-row .ensures))
-    (go-is (s n) (σ n) (r n) (off k) _ [] [] (found (w₃ y)) (goes-taken y .number-0) (c .before .before .before .before .before .before .before .before .before .before .before .before .before .before .before .before .before .follow .ensures .0) (c .before .before .before .before .before .before .before .before .before .before .before .before .before .before .before .before .before .follow .ensures .1)
-    (goes (z₁ y)) (there .1) (there .2) (c .before .before .before .before .before .before .before .before .before .relocate .ensures) (c .done .ensures))
-
-cast-write-row-2 : tie.Need-cast-write-row-2
-cast-write-row-2 c = search needs
+    let g = c .before .before .before .before .before .before .before .before .before .before in
+    let y = g .before .before .before .before .before .before .before .before .before .before .before in
+    let a = start₆ y in
+    let bytes-there = g .before .before .before .before .before .before .before .before .write-row .ensures in
+    let left = g .go .last .1 .1 .1 .1 .1 .1 in
+    write-goes (s a) (σ a) (r a) (column a) (bytes a) bytes-there (goes-there y) {store = left .0} {forward = left .1 .0}
+    {reverse = left .1 .1 .0} {rows = left .1 .1 .1 .0} {counts = left .1 .1 .1 .1 .0} (g .go .ensures)
 
 write-row-requires-2 : tie.Need-write-row-requires-2
 write-row-requires-2 c κs =
     let x = c .before .before in
-    let k = k₂ (w₁ x) in
-    let n = n₃ (w₁ x) in
-    (bytes-fit (s n) (σ n) (r n) (off k) (n .before .before .before .before .before .before .before .before .before .before .before .before .before .before .args .column) (n .before .before .before .before .before .before .before .before .before .before .before .before .before .before .args .bytes .now) (k .before .before .before .before .write-off .ensures) (stays-taken x), place-inside (stays-taken x))
+    let a = start₅ (at-stay x) in
+    let taken = stays-taken (stays-here x) in
+    (bytes-fit (s a) (σ a) (r a) (column a) (bytes a) taken, place-inside taken)
 
-follow-requires-2 : tie.Need-follow-requires-2
-follow-requires-2 c κs = followable (early (c .before .before .before .before .before .before .before .before .before .before .before .before .before .before .before .before .before .before .before .before .before .before .before)) (c .before .before .before .before .before .before .before .before .before .before .before .before .before .before .before .before .before .before .before .before .before .before .before .before .before .before .entry-of .ensures) (c .before .before .before .before .before .before .before .before .before .before .before .before .before .before .before .before .before .before .before .before .before .before .place .ensures) (c .before .before .before .before .before .before .before .before .before .before .before .before .before .before .before .before .before .before .before .before .before .bank-of .ensures) (c .before .before .before .before .before .before .before .before .before .before .before .before .before .before .before .before .before .before .number-of .ensures) (c .before .before .before .before .before .before .before .before .before .before .before .before .before .before .before .before .before .number-of2 .ensures) (c .before .before .before .before .before .before .before .before .before .before .before .find .ensures) (c .before .before .before .before .before .before .before .before .before .estimate .ensures)
-
-done-requires-2 : tie.Need-done-requires-2
-done-requires-2 c κs =
-    let x = c .before .before .before .before .before .before .before .before .before .before .before .before in
-    (numbers-small (early (c .before .before .before .before .before .before .before .before .before .before .before .before .before .before .before .before .before .before .before .before .before .before .before .before .before .before .before .before)) (c .before .before .before .before .before .before .before .before .before .before .before .before .before .before .before .before .before .before .before .before .before .before .before .before .before .before .before .before .before .before .before .entry-of .ensures) (c .before .before .before .before .before .before .before .before .before .before .before .before .before .before .before .before .before .before .before .before .before .before .before .before .before .before .before .place .ensures) (c .before .before .before .before .before .before .before .before .before .before .before .before .before .before .before .before .before .before .before .before .before .before .before .before .before .before .bank-of .ensures) (c .before .before .before .before .before .before .before .before .before .before .before .before .before .before .before .before .before .before .before .before .before .before .before .number-of .ensures) (c .before .before .before .before .before .before .before .before .before .before .before .before .before .before .before .before .before .before .before .before .before .before .number-of2 .ensures) .0, omega (arith, found (w₁ x) .acts-are, acts-below (stays-taken x)))
-
-same-length-31 : tie.Need-same-length-31
-same-length-31 c = search needs
-
-same-length-32 : tie.Need-same-length-32
-same-length-32 c = search needs
-
-same-length-33 : tie.Need-same-length-33
-same-length-33 c = search needs
-
-same-length-34 : tie.Need-same-length-34
-same-length-34 c = search needs
-
-same-length-35 : tie.Need-same-length-35
-same-length-35 c = search needs
+stay-requires : tie.Need-stay-requires
+stay-requires c κs =
+    let x = c .before .before .before .before .before .before .before in
+    followable (stays-here x .seen)
 
 returns-7 : tie.Need-returns-7
 returns-7 c =
-    let x = c .before .before .before .before .before .before .before .before .before .before .before .before .before in
-    let k = k₂ (w₁ x) in
-    let n = n₃ (w₁ x) in
-    write-serves (s n) (σ n) (r n) (off k) (n .before .before .before .before .before .before .before .before .before .before .before .before .before .before .args .column) (n .before .before .before .before .before .before .before .before .before .before .before .before .before .before .args .bytes .now) (k .before .before .before .before .write-off .ensures) (c .done2 .result) (written-is (s n) (σ n) (r n) (off k) (n .before .before .before .before .before .before .before .before .before .before .before .before .before .before .args .column) (n .before .before .before .before .before .before .before .before .before .before .before .before .before .before .args .bytes .now) (k .before .before .before .before .write-off .ensures) (stays-taken x) (c .before .before .before .before .before .before .before .before .before .before .write-row2 .ensures))
-    (stay-is (s n) (σ n) (r n) (off k) _ [] [] (found (w₁ x)) (stays-0 x) (c .before .before .before .before .before .follow2 .ensures .0) (c .before .before .before .before .before .follow2 .ensures .1) (stays x) (c .done2 .ensures))
+    let g = c .before .before .before .before in
+    let x = g .before .before .before .before .before .before .before .before in
+    let a = start₅ (at-stay x) in
+    let bytes-there = g .before .before .before .before .before .write-row2 .ensures in
+    write-stays (s a) (σ a) (r a) (column a) (bytes a) bytes-there (stays-here x) (g .stay .ensures)
 
 pub write-spec : {M : Type 1} → statement M
 write-spec =
     tie.close
     (tie.spec
-    element-copy-out-first-bank-number
-    element-copy-out-first-bank-number-2
-    first-bank-number-requires
-    refused-requires
-    same-length
-    same-length-2
-    same-length-3
-    same-length-4
-    same-length-5
+    (λ c. search needs)
+    (λ c. search needs)
+    (λ c κs. search needs)
+    (λ c κs. search needs)
+    (λ c. search needs) (λ c. search needs) (λ c. search needs) (λ c. search needs) (λ c. search needs)
     returns
     others-unsound-requires
-    refused-requires-2
-    same-length-6
-    same-length-7
-    same-length-8
-    same-length-9
-    same-length-10
+    (λ c κs. search needs)
+    (λ c. search needs) (λ c. search needs) (λ c. search needs) (λ c. search needs) (λ c. search needs)
     returns-2
-    write-off-requires
-    entry-of-requires
+    (λ c κs. search needs)
+    (λ c κs. search needs)
     row-number-requires
-    refused-requires-3
-    same-length-11
-    same-length-12
-    same-length-13
-    same-length-14
-    same-length-15
+    (λ c κs. search needs)
+    (λ c. search needs) (λ c. search needs) (λ c. search needs) (λ c. search needs) (λ c. search needs)
     returns-3
-    cast-t60
-    place-requires
+    cast-t58
+    (λ c κs. search needs)
     bank-of-requires
     number-of-requires
     number-of-requires-2
-    refused-requires-4
-    same-length-16
-    same-length-17
-    same-length-18
-    same-length-19
-    same-length-20
+    (λ c κs. search needs)
+    (λ c. search needs) (λ c. search needs) (λ c. search needs) (λ c. search needs) (λ c. search needs)
     returns-4
-    cast-k
+    (λ c. search needs)
     find-requires
     mul-estimate
     add-estimate
     estimate-requires
     is-due-requires
     quarantine-requires
-    refused-requires-5
-    same-length-21
-    same-length-22
-    same-length-23
-    same-length-24
-    same-length-25
+    (λ c κs. search needs)
+    (λ c. search needs) (λ c. search needs) (λ c. search needs) (λ c. search needs) (λ c. search needs)
     returns-5
-    cast-write-row
+    (λ c. search needs)
     write-row-requires
-    follow-requires
-    cast-t89
-    relocate-requires
-    cast-done
-    cast-done-2
-    done-requires
-    same-length-26
-    same-length-27
-    same-length-28
-    same-length-29
-    same-length-30
+    cast-t83
+    go-requires
+    (λ c. search needs) (λ c. search needs) (λ c. search needs) (λ c. search needs) (λ c. search needs)
     returns-6
-    cast-write-row-2
+    (λ c. search needs)
     write-row-requires-2
-    follow-requires-2
-    done-requires-2
-    same-length-31
-    same-length-32
-    same-length-33
-    same-length-34
-    same-length-35
+    stay-requires
+    (λ c. search needs) (λ c. search needs) (λ c. search needs) (λ c. search needs) (λ c. search needs)
     returns-7)
