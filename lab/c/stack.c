@@ -15,7 +15,7 @@
 
 #include "aqua.h"
 
-enum { STATED = 512, STATED_ACCESS = 6400 }; /* the header's figures; the second is that of reads and writes */
+enum { STATED = 768, STATED_ACCESS = 6400 }; /* the header's figures; the second is that of reads and writes */
 
 enum { ROOM = 65536, FILLED = 16384, PATTERN = 0xa5 };
 enum { ROWS = 40, SLOTS = 20, LONGEST = 8192, ENTRIES = 200, HISTORIES = 2000, CALLS = 200 };
