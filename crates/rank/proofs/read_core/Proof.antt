@@ -28,7 +28,9 @@ same-length-6 : tie.Need-same-length-6
 same-length-6 c = search needs
 
 returns : tie.Need-returns
-returns c = rw (c .with-numbers .ensures) (c .before .before .before .before .before .before .before .before .before .before .before .before .before .before .before .read .ensures .1)
+returns c =
+    let t = c .before .before .before .before .before .before .before .before .before .before .before .before .before .before .before in
+    rw (c .with-numbers .ensures) (t .read .ensures .1)
 
 pub read-core-spec : {M : Type 1} → statement M
 read-core-spec =

@@ -25,7 +25,9 @@ same-length-5 : tie.Need-same-length-5
 same-length-5 c = search needs
 
 returns : tie.Need-returns
-returns c = rw (c .with-numbers .ensures) (c .before .before .before .before .before .before .before .before .before .before .before .before .before .write .ensures .1)
+returns c =
+    let t = c .before .before .before .before .before .before .before .before .before .before .before .before .before in
+    rw (c .with-numbers .ensures) (t .write .ensures .1)
 
 pub write-core-spec : {M : Type 1} → statement M
 write-core-spec =
