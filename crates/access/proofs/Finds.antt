@@ -63,7 +63,7 @@ module _ {S : Settings} {σ : State} {r : ℕ} {off : Bool} {e : ForwardEntry} (
   pub fits : Checked S σ
   fits = checked S σ (past .0)
 
-  pub row-holds : (r < S .n) × (off ≡ false) × (pointersHold S σ r ≡ true)
+  row-holds : (r < S .n) × (off ≡ false) × (pointersHold S σ r ≡ true)
   row-holds = row-facts S (σ .reverse) (forwardOf σ r) r off (past .1)
 
   pub row-small : r < 60000
@@ -104,7 +104,7 @@ module _ {S : Settings} {σ : State} {r : ℕ} {off : Bool} {e : ForwardEntry} {
   pub bank-small : bank < mostBanks
   bank-small = omega (arith, bank-is, home-in, good .ranges .b-high)
 
-  pub place-small : p .0 < 65536
+  place-small : p .0 < 65536
   place-small = bankable (B .entered) (B .placed) .1
 
   -- what `find` asks
@@ -125,10 +125,10 @@ module _ {S : Settings} {σ : State} {r : ℕ} {off : Bool} {e : ForwardEntry} {
   acts-are acted = acted ∙ ap (λ (c : ℕ). getD (σ .control .acts) c 0) bank-is
 
   module _ {spill : ℕ} (spilled : spill ≡ getD (σ .control .spill) bank 0) where
-    pub spill-is : spill ≡ t .spill
+    spill-is : spill ≡ t .spill
     spill-is = spilled ∙ ap (λ (c : ℕ). getD (σ .control .spill) c 0) bank-is
 
-    pub spill-small : spill < 65536
+    spill-small : spill < 65536
     spill-small = omega (arith, spill-is, good .steady .banks home home-in .spill-below, good .ranges .a-high)
 
     -- i: the entry that step 2 changes

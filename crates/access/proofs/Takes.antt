@@ -74,7 +74,7 @@ module _ {S : Settings} {σ : State} {r : ℕ} {off : Bool} {e : ForwardEntry} {
     pub goes : moves S σ r ≡ true
     goes = sym (due-is (J .seen)) ∙ J .due
 
-    pub verdict-is : v ≡ quarantineVerdict S (ringOf (σ .control)) (σ .forward) (σ .reverse) (skipped S σ r)
+    verdict-is : v ≡ quarantineVerdict S (ringOf (σ .control)) (σ .forward) (σ .reverse) (skipped S σ r)
     verdict-is =
         J .told
         ∙ ap (quarantineVerdict S (ringOf (σ .control)) (σ .forward) (σ .reverse)) (over-is (J .seen) (J .due))

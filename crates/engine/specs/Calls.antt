@@ -78,9 +78,6 @@ pub record Accessed : Type 0 where
   pub answer : Access
   pub buffer : List ℕ
 
-abbrev pub accessedOf : State → Access → List ℕ → Accessed
-accessedOf σ answer buffer = record { state = σ; answer = answer; buffer = buffer }
-
 -- an access of row r with that number: the effect where it is 0, and where it is not 'Control record and all lent memory
 -- remain as before the call, the read buffer too'. store: the store after step 3; filled: the buffer if it is accepted.
 -- 'The tracker shall give, and the access shall hand on, the estimate after the access' (document 02, Ask 2)

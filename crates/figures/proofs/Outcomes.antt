@@ -1,22 +1,11 @@
--- An access in numbers is the access; its numbers, case by case. Assumes nothing.
+-- The numbers of an access, case by case. Assumes nothing.
 use Prim.Native.Nat.{ℕ}
-use mathlib.Core.Path.{_≡_, refl, ap, _∙_}
-use mathlib.Core.List.{List}
+use mathlib.Core.Path.{_≡_, refl}
 use Rattle.geometry.specs.Numbering.{slot, physical, visible}
 use Rattle.geometry.specs.Entry.{empty}
-use Rattle.engine.specs.declared.Access.{Access}
 use Rattle.engine.specs.declared.Access.the-variants.{Refused, Done}
 use Rattle.engine.specs.declared.Move.the-variants.{Stayed, ToSlot, OverSlot}
-use Rattle.engine.specs.State.{State}
-use Rattle.engine.specs.Calls.{Accessed, accessedOf}
-use Rattle.figures.specs.declared.Outcome.{Outcome}
 use Rattle.figures.specs.Outcome.{outcomeOf}
-use Rattle.figures.specs.Promises.{AccessPromise}
-
-pub in-numbers : {a : Accessed} {after : State} {answer : Access} {filled : List ℕ} {outcome : Outcome}
-    → accessedOf after answer filled ≡ a → outcome ≡ outcomeOf answer → AccessPromise a after outcome filled
-in-numbers e o =
-    (ap (λ (x : Accessed). x .state) e, o ∙ ap (λ (x : Accessed). outcomeOf (x .answer)) e, ap (λ (x : Accessed). x .buffer) e)
 
 pub refused-outcome : (number : ℕ)
     → outcomeOf (Refused number) ≡ record { number = number; slot = empty; row = empty; estimate = 0; place = 0 }

@@ -13,7 +13,7 @@ use Rattle.banks.proofs.Portions.{length-portion, getD-portion, set-portion, po
 use Rattle.scan.specs.Scan.{indexOf}
 use Rattle.tracking.specs.Track.{Tracked, track}
 use Rattle.tracking.specs.Entry.{entryOf, entryIn, estimateAt, rowsAfter, countsAfter, spillAfter}
-use Rattle.tracking.proofs.Entries.{followed, follow-entry, entry-most}
+use Rattle.tracking.proofs.Entries.{followed, follow-entry}
 
 module _ (k c : ℕ) (rows counts : List ℕ) (rows-fit : c * k + k ≤ length rows) (counts-fit : c * k + k ≤ length counts) (p spill : ℕ) where
   rows-long : length (portion k c rows) ≡ k
@@ -41,10 +41,6 @@ module _ (k c : ℕ) (rows counts : List ℕ) (rows-fit : c * k + k ≤ length r
 
   told : followed i (estimateAt i (length (portion k c counts)) (portion k c counts)) p (portion k c rows) (portion k c counts) spill ≡ t
   told = follow-entry p (portion k c rows) (portion k c counts) spill alike
-
-  pub entry-in-most : entry ≤ c * k + k
-  unfolding entryIn
-  entry-in-most = omega (arith, counts-long, entry-most p (portion k c rows) (portion k c counts) spill alike)
 
   estimate-is : estimate ≡ estimateAt i (length (portion k c counts)) (portion k c counts)
   unfolding entryIn estimateAt

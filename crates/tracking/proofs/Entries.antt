@@ -1,5 +1,5 @@
 -- Step 2 told by its entry, found and then followed, is step 2. Assumes nothing.
-use Prim.Native.Nat.{ℕ, _<_, _≤_}
+use Prim.Native.Nat.{ℕ, _<_}
 use native.Mathlib.Omega.{arith}
 use mathlib.Core.Path.{_≡_, sym, ap, _∙_}
 use mathlib.Core.Logic.{inl, inr}
@@ -10,7 +10,7 @@ use lib.Seq.{set-getD}
 use borrow.Author.Tests.{lt-ltb, le-ltb}
 use Rattle.geometry.proofs.Cases.{split, lt?}
 use Rattle.scan.specs.Scan.{indexOf}
-use Rattle.scan.proofs.Scans.{lowest-le, index-found}
+use Rattle.scan.proofs.Scans.{index-found}
 use Rattle.tracking.specs.Track.{Tracked, track}
 use Rattle.tracking.specs.Entry.{entryOf, estimateAt, rowsAfter, countsAfter, spillAfter}
 
@@ -48,16 +48,6 @@ module _ (p : ℕ) (rows counts : List ℕ) (spill : ℕ) (long : length rows �
           | inl k ↦ rw (lt-ltb j (length counts) k, eqb·suc-zero (getD counts j 0), index-found spill counts 0 k)
           | inr k ↦ rw (le-ltb j (length counts) k)
         ])
-      ]
-
-  -- the entry is one of them, or as many as there are
-  pub entry-most : entryOf p rows counts spill ≤ length counts
-  unfolding entryOf
-  entry-most =
-      let i : ℕ = indexOf p rows in
-      elim (lt? i (length rows)) [
-        | inl h ↦ rw (lt-ltb i (length rows) h) (omega arith)
-        | inr h ↦ rw (le-ltb i (length rows) h) (lowest-le (λ x. eqb x spill) counts)
       ]
 
   pub track-long : (length ((track p rows counts spill) .rows) ≡ length rows) × (length ((track p rows counts spill) .counts) ≡ length counts)

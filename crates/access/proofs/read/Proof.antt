@@ -101,36 +101,50 @@ module _ (b : tie.After-bank-of) where
         banked = b .bank-of .ensures;
       }
 
--- ---- past 8, and step 2 is found
-module _ (w : tie.After-estimate) where
+-- ---- past 8, and the entry of step 2 is found
+module _ (g : tie.After-find) where
   abbrev at-numbers : tie.After-number-of2
-  at-numbers = w .before .before .before .before .before .before .before .before
+  at-numbers = g .before .before .before .before .before .before
 
   abbrev at-bank : tie.After-bank-of
   at-bank = at-numbers .before .before .before .before
 
+-- ---- and its estimate
+module _ (w : tie.After-estimate) where
+  abbrev at-find : tie.After-find
+  at-find = w .before .before
+
+  abbrev own-bank : tie.After-bank-of
+  own-bank = at-bank at-find
+
+  abbrev own-numbers : tie.After-number-of2
+  own-numbers = at-numbers at-find
+
+  abbrev own-entry : ForwardEntry
+  own-entry = entry (at-row own-bank)
+
   abbrev start₅ : tie.Start
-  start₅ = start₄ at-bank
+  start₅ = start₄ own-bank
 
   abbrev f : Found
   f =
       record {
-        place = at-bank .before .place .result;
-        bank = at-bank .bank-of .result;
-        spill = at-numbers .before .number-of .result;
-        acts = at-numbers .number-of2 .result;
-        entry = w .before .before .find .result;
+        place = own-bank .before .place .result;
+        bank = own-bank .bank-of .result;
+        spill = own-numbers .before .number-of .result;
+        acts = own-numbers .number-of2 .result;
+        entry = at-find .find .result;
         estimate = w .estimate .result;
       }
 
-  seen : Seen (s start₅) (σ start₅) (r start₅) (off start₅) (entry (at-row at-bank)) f
+  seen : Seen (s start₅) (σ start₅) (r start₅) (off start₅) own-entry f
   seen =
       record {
-        banked = banked at-bank;
-        spilled = at-numbers .before .number-of .ensures;
-        acted = at-numbers .number-of2 .ensures;
-        more = w .before .before .before .before .before .before .if4 .left;
-        found = w .before .before .find .ensures;
+        banked = banked own-bank;
+        spilled = own-numbers .before .number-of .ensures;
+        acted = own-numbers .number-of2 .ensures;
+        more = at-find .before .before .before .before .if4 .left;
+        found = at-find .find .ensures;
         estimated = w .estimate .ensures;
       }
 
@@ -139,7 +153,7 @@ module _ (x : tie.Else5) where
   abbrev at-stay : tie.After-estimate
   at-stay = x .before .before
 
-  stays-here : let a = start₅ at-stay in Stays (s a) (σ a) (r a) (off a) (entry (at-row (at-bank at-stay))) (f at-stay)
+  stays-here : let a = start₅ at-stay in Stays (s a) (σ a) (r a) (off a) (own-entry at-stay) (f at-stay)
   stays-here = record { seen = seen at-stay; not-due = sym (x .before .is-due .ensures) ∙ x .if5 .left }
 
 -- ---- it is to be quarantined
@@ -148,7 +162,7 @@ module _ (z : tie.After-quarantine) where
   at-estimate = z .before .before .before .before .before .before .before
 
   judged : let a = start₅ at-estimate in
-      Judged (s a) (σ a) (r a) (off a) (entry (at-row (at-bank at-estimate))) (f at-estimate) (z .quarantine .result)
+      Judged (s a) (σ a) (r a) (off a) (own-entry at-estimate) (f at-estimate) (z .quarantine .result)
   judged =
       let t = z .before .before .before .before .before in
       record {
@@ -163,7 +177,7 @@ module _ (y : tie.Else6) where
   start₆ = start₅ (at-estimate (y .before))
 
   goes-there : let w = at-estimate (y .before) in
-      Goes (s start₆) (σ start₆) (r start₆) (off start₆) (entry (at-row (at-bank w))) (f w) (y .before .quarantine .result)
+      Goes (s start₆) (σ start₆) (r start₆) (off start₆) (own-entry w) (f w) (y .before .quarantine .result)
   goes-there = record { judged = judged (y .before); passes = y .if6 .left }
 
 -- ---- what is left to show; `search` finds the rest: what refusals ask, and that each slice keeps its length
@@ -228,25 +242,18 @@ find-requires : tie.Need-find-requires
 find-requires c κs = findable (banked (c .before .before .before .before .before .before .before .before .before))
 
 mul-estimate : tie.Need-mul-estimate
-mul-estimate c =
-    let b = c .before .before .before .before .before .before .before .before .before .before in
-    omega (arith, end-small (banked b))
+mul-estimate c = omega (arith, end-small (banked (at-bank c)))
 
 add-estimate : tie.Need-add-estimate
-add-estimate c =
-    let b = c .before .before .before .before .before .before .before .before .before .before in
-    omega (arith, end-small (banked b))
+add-estimate c = omega (arith, end-small (banked (at-bank c)))
 
 estimate-requires : tie.Need-estimate-requires
 estimate-requires c κs =
     let g = c .before in
-    let b = g .before .before .before .before .before .before .before .before .before .before in
-    estimable (banked b) (g .before .before .before .before .before .before .before .number-of .ensures) (g .find .ensures)
+    estimable (banked (at-bank g)) (at-numbers g .before .number-of .ensures) (g .find .ensures)
 
 is-due-requires : tie.Need-is-due-requires
-is-due-requires c κs =
-    let b = c .before .before .before .before .before .before .before .before .before .before .before .before in
-    fits (banked b .entered) .ranges .a-low
+is-due-requires c κs = fits (seen c .banked .entered) .ranges .a-low
 
 quarantine-requires : tie.Need-quarantine-requires
 quarantine-requires c κs =
