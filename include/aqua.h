@@ -52,8 +52,8 @@ typedef struct {
 } aqua_settings;
 
 /* The control record. Only the calls write it. Its places for banks from b on are 0 after set-up; no other call looks at
- * them or changes them. Unsound, number 4, is head of q or more, passed above q, and in a bank below b acts above l, spill
- * above acts, spill of a or more, or a count above acts.
+ * them or changes them. The record is unsound, number 4, where head is q or more, or passed is above q, or where in some bank
+ * below b acts is above l, spill is above acts, spill is a or more, or one of the bank's counts is above its acts.
  *
  * A row that moves goes to the first slot from head on, round q, that is not worn, of whatever bank, and head goes by the
  * worn ones and by that slot. A slot is worn where the lowest entry of the slot's bank that names its physical row, n +

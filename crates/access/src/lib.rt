@@ -40,7 +40,8 @@ pub struct Found {
     pub estimate: u32,
 }
 
-// Returns the answer of a refusal, which leaves the control record: the numbers of the first bank stay.
+// Returns the answer of a refusal. What it gives for the control record stands there already: `head`, `passed`, and the
+// numbers of the first bank.
 fn refused(control: Control, number: u32) -> Answered
     ensures { λ r. ⌜ r ≡ refusalOf control number ⌝ }
 {
@@ -191,7 +192,7 @@ pub fn read(
     let all_acts = control.acts;
     let spill = banks::number_of(all_spill, bank);
     let acts = banks::number_of(all_acts, bank);
-    if acts == s.l {
+    if verdict::is_full(s, acts) {
         return refused(control, engine::EPOCH);
     }
     let k = s.k as usize;
@@ -284,7 +285,7 @@ pub fn write(
     let all_acts = control.acts;
     let spill = banks::number_of(all_spill, bank);
     let acts = banks::number_of(all_acts, bank);
-    if acts == s.l {
+    if verdict::is_full(s, acts) {
         return refused(control, engine::EPOCH);
     }
     let k = s.k as usize;

@@ -17,10 +17,6 @@ use Rattle.history.specs.Run.{Event, step}
 use Rattle.trace_steps.specs.Steps.{stepsFrom}
 use Rattle.replay.specs.Memory.{lent}
 
--- the number that set-up answers
-abbrev pub setUpAnswers : Settings → ℕ
-setUpAnswers S = (calls.setUp S (lent S)) .number
-
 -- the steps after set-up, with their answers; `unfolding traced` opens all that is named here
 unfoldable pub traced : Settings → List ℕ → List Event
 unfolding calls.setUp calls.noted calls.zeroBelow calls.tick calls.read calls.accessed step stepsFrom

@@ -300,15 +300,16 @@ banksAtHome name count rows counts head =
     let none : List ℕ = 65535 ∷ 65535 ∷ 65535 ∷ 65535 ∷ [] in
     lentOf twoBanks none none (0 ∷ name ∷ rows) (1 ∷ count ∷ counts) head 0 (4 ∷ 4 ∷ [])
 
--- row 0 stands in slot 1, in bank 1, and no entry names a row (spill, acts: of the two banks; rest: of every other)
-abbrev pub inBank1 : List ℕ → List ℕ → ℕ → Lent
-inBank1 spill acts rest =
+-- row 0 stands in slot 1, in bank 1, and of the entries only bank 0's first names a row (name, count: of that entry; spill, acts:
+-- of the two banks; rest: of every other)
+abbrev pub inBank1 : ℕ → ℕ → List ℕ → List ℕ → ℕ → Lent
+inBank1 name count spill acts rest =
     record {
       settings = twoBanks;
       forward = 1 ∷ 65535 ∷ 65535 ∷ 65535 ∷ [];
       reverse = 65535 ∷ 0 ∷ 65535 ∷ 65535 ∷ [];
-      rows = 65535 ∷ 65535 ∷ 65535 ∷ 65535 ∷ [];
-      counts = 0 ∷ 0 ∷ 0 ∷ 0 ∷ [];
+      rows = name ∷ 65535 ∷ 65535 ∷ 65535 ∷ [];
+      counts = count ∷ 0 ∷ 0 ∷ 0 ∷ [];
       head = 2;
       passed = 2;
       spill = byBank spill rest;
@@ -320,6 +321,8 @@ abbrev pub inBanks : List Case
 inBanks =
     -- 'Step 2 looks only at the entries of p's bank': bank 0's other entry has row 1's home with count 1, and row 1 is of bank 1
     reads (banksAtHome 1 1 (65535 ∷ 65535 ∷ []) (0 ∷ 0 ∷ []) 0) 1 (0 ∷ 65535 ∷ 65535 ∷ 0 ∷ 0 ∷ [])
+    -- bank 0, that of row 0's home, has slot 1's physical row with count 1; the place is of bank 1
+    ∷ reads (inBank1 5 1 (0 ∷ 0 ∷ []) (1 ∷ 0 ∷ []) 0) 0 (0 ∷ 65535 ∷ 65535 ∷ 2 ∷ 2 ∷ [])
     -- 'Ask 4's count only at those of the slot's bank': bank 0 has slot 0's physical row with count A, or bank 1 has it
     ∷ reads (banksAtHome 4 2 (65535 ∷ 65535 ∷ []) (0 ∷ 0 ∷ []) 0) 0 (0 ∷ 1 ∷ 65535 ∷ 2 ∷ 2 ∷ [])
     ∷ reads (banksAtHome 65535 0 (65535 ∷ 4 ∷ []) (0 ∷ 2 ∷ []) 0) 0 (0 ∷ 0 ∷ 65535 ∷ 1 ∷ 1 ∷ [])
@@ -327,13 +330,13 @@ inBanks =
     ∷ reads (banksAtHome 5 0 (5 ∷ 65535 ∷ []) (2 ∷ 0 ∷ []) 1) 0 (0 ∷ 2 ∷ 65535 ∷ 3 ∷ 2 ∷ [])
     ∷ reads (banksAtHome 5 2 (5 ∷ 65535 ∷ []) (0 ∷ 0 ∷ []) 1) 0 (0 ∷ 1 ∷ 65535 ∷ 2 ∷ 1 ∷ [])
     -- '8 looks at the bank of p': the slot's bank is full and the home's is not, and the contrary
-    ∷ reads (inBank1 (0 ∷ 0 ∷ []) (0 ∷ 5 ∷ []) 0) 0 (8 ∷ 65535 ∷ 65535 ∷ 2 ∷ 2 ∷ [])
-    ∷ reads (inBank1 (0 ∷ 0 ∷ []) (5 ∷ 0 ∷ []) 0) 0 (0 ∷ 65535 ∷ 65535 ∷ 2 ∷ 2 ∷ [])
+    ∷ reads (inBank1 65535 0 (0 ∷ 0 ∷ []) (0 ∷ 5 ∷ []) 0) 0 (8 ∷ 65535 ∷ 65535 ∷ 2 ∷ 2 ∷ [])
+    ∷ reads (inBank1 65535 0 (0 ∷ 0 ∷ []) (5 ∷ 0 ∷ []) 0) 0 (0 ∷ 65535 ∷ 65535 ∷ 2 ∷ 2 ∷ [])
     -- 'the conditions of 4 .. are per bank': bank 0 has more accesses than L, or a `spill` that exceeds them
-    ∷ reads (inBank1 (0 ∷ 0 ∷ []) (6 ∷ 0 ∷ []) 0) 0 (4 ∷ 65535 ∷ 65535 ∷ 2 ∷ 2 ∷ [])
-    ∷ reads (inBank1 (1 ∷ 0 ∷ []) (0 ∷ 1 ∷ []) 0) 0 (4 ∷ 65535 ∷ 65535 ∷ 2 ∷ 2 ∷ [])
+    ∷ reads (inBank1 65535 0 (0 ∷ 0 ∷ []) (6 ∷ 0 ∷ []) 0) 0 (4 ∷ 65535 ∷ 65535 ∷ 2 ∷ 2 ∷ [])
+    ∷ reads (inBank1 65535 0 (1 ∷ 0 ∷ []) (0 ∷ 1 ∷ []) 0) 0 (4 ∷ 65535 ∷ 65535 ∷ 2 ∷ 2 ∷ [])
     -- 'the record's places for banks from B on are .. not looked at'
-    ∷ reads (inBank1 (0 ∷ 0 ∷ []) (0 ∷ 0 ∷ []) 4294967295) 0 (0 ∷ 65535 ∷ 65535 ∷ 2 ∷ 2 ∷ [])
+    ∷ reads (inBank1 65535 0 (0 ∷ 0 ∷ []) (0 ∷ 0 ∷ []) 4294967295) 0 (0 ∷ 65535 ∷ 65535 ∷ 2 ∷ 2 ∷ [])
     -- 'A new setting B, 1 to 16'; 'the check behind 2 .. per bank': B does not raise what L may be
     ∷ settings (withBanks 16 (settingsOf 4 2 1 2 2 5)) 0
     ∷ settings (withBanks 17 (settingsOf 4 2 1 2 2 5)) 1

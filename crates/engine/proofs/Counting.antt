@@ -10,7 +10,7 @@ use Rattle.geometry.specs.declared.Settings.{Settings}
 use Rattle.geometry.specs.Entry.{empty}
 use Rattle.geometry.proofs.Cases.{eq?}
 use Rattle.banks.specs.Banks.{bankOf}
-use Rattle.tracking.proofs.Sums.{quotients, sum-portion}
+use Rattle.tracking.proofs.Sums.{sumBy, total, quotients, sum-portion}
 use Rattle.tracking.proofs.Tracking.{one-if}
 use Rattle.tracking.proofs.View.{Grew}
 use Rattle.engine.specs.State.{State, Tracker, trackerOf, trackerAt}
@@ -58,15 +58,19 @@ module _ (S : Settings) (σ : State) (sound : Sound S σ) (r : ℕ) where
     pub counting-after : ((x : ℕ) → CountingAt S σ x) → (x : ℕ) → CountingAt S (counted S σ r) x
     counting-after counting x = by-bank (λ t u. CountingBy (S .k) u) x (λ e. T .after) (λ m. counting x)
 
+    -- a sum over the counts of all banks changes as that over the counts of its bank
+    sum-after : (f : ℕ → ℕ) → sumBy f ((counted S σ r) .counts) + sumBy f ((trackerAt S σ p) .counts) ≡ sumBy f (σ .counts) + sumBy f ((tracked S σ r) .counts)
+    sum-after f =
+        sum-portion f (S .k) (σ .counts) (bankOf S p) (room-of S σ sound r (σ .counts) (sound .lengths .counts)) ((tracked S σ r) .counts)
+        (tracked-counts-long S σ r (sound .ranges .b-low) (sound .lengths .rows) (sound .lengths .counts))
+
     -- the quarantines of all banks, this one included
     pub quotients-after : quotients (S .a) ((counted S σ r) .counts) ≡ quotients (S .a) (σ .counts) + one-if (moves S σ r)
-    quotients-after =
-        omega (
-          arith,
-          T .quotients,
-          sum-portion (λ x. x / S .a) (S .k) (σ .counts) (bankOf S p) (room-of S σ sound r (σ .counts) (sound .lengths .counts)) ((tracked S σ r) .counts)
-              (tracked-counts-long S σ r (sound .ranges .b-low) (sound .lengths .rows) (sound .lengths .counts)),
-        )
+    quotients-after = omega (arith, T .quotients, sum-after (λ x. x / S .a))
+
+    -- the counts of all banks: an access adds one at most
+    pub total-after : CountingAt S σ p → total ((counted S σ r) .counts) ≤ suc (total (σ .counts))
+    total-after C = omega (arith, C .summed, T .after .summed, T .spill-grows, sum-after (λ x. x))
 
   pub acts-after : trackerAt S σ p .acts < S .l → ((x : ℕ) → trackerAt S σ x .acts ≤ S .l) → (x : ℕ) → trackerAt S (counted S σ r) x .acts ≤ S .l
   acts-after more most x = by-bank (λ t u. u .acts ≤ S .l) x (λ e. more) (λ m. most x)

@@ -3,7 +3,7 @@ use Prim.Native.Nat.{ℕ, suc, _+_, _-_, _*_, _%_, _<_, _≤_}
 use native.Mathlib.Nat.{mod-lt}
 use native.Mathlib.Omega.{arith}
 use mathlib.Core.Path.{_≡_, refl, sym, ap, _∙_}
-use mathlib.Core.Logic.{inl, inr, _≢_}
+use mathlib.Core.Logic.{_⊎_, inl, inr, _≢_}
 use mathlib.Core.Bool.{true, false}
 use mathlib.Core.List.{List}
 use lib.Dec.{eqb}
@@ -14,12 +14,13 @@ use Rattle.geometry.specs.Numbering.{visible, slot}
 use Rattle.geometry.specs.Entry.{empty}
 use Rattle.geometry.proofs.Cases.{split}
 use Rattle.geometry.proofs.Tests.{or-left}
-use Rattle.conditions.proofs.Facts.{Exact}
+use Rattle.conditions.proofs.Facts.{Ranges, Exact}
 use Rattle.tracking.proofs.View.{tracks}
 use Rattle.row_layout.specs.Bytes.{copied}
 use Rattle.row_layout.proofs.Laws.{byteAt, length-copied, copied-to, copied-other}
 use Rattle.engine.specs.declared.Move.{Move}
 use Rattle.engine.specs.declared.Move.the-variants.{Stayed, ToSlot, OverSlot}
+use Rattle.engine.specs.Answer.{slotMovedTo}
 use Rattle.engine.specs.State.{State, Tracker, lengthsOf, trackerAt, forwardOf, reverseOf}
 use Rattle.engine.specs.Steps.{place, moves, skips, skipped, destinationFrom, destination, riseTo, rise, move, left, settled}
 use Rattle.engine.proofs.Window.{Slide, next-in}
@@ -59,6 +60,22 @@ destination-from-in S head over b = mod-lt (head + over) (omega arith)
 
 pub destination-in : (S : Settings) (σ : State) (r : ℕ) → σ .control .head < S .q → destination S σ r < S .q
 destination-in S σ r b = destination-from-in S (σ .control .head) (skipped S σ r) b
+
+-- ---- whether a slot is answered tells whether the row is moved
+
+module _ (S : Settings) (σ : State) (r : ℕ) (ranges : Ranges S) (head-in : σ .control .head < S .q) where
+  real : destination S σ r ≢ empty
+  real = marks-none S ranges (destination S σ r) (let b = destination-in S σ r head-in in omega arith)
+
+  by-plan-told : (m : Move) → Plan S σ r m
+      → ((slotMovedTo m ≡ empty) × (moves S σ r ≡ false)) ⊎ ((slotMovedTo m ≢ empty) × (moves S σ r ≡ true))
+  by-plan-told m (rests e) = inl (refl, e)
+  by-plan-told m (fills e vacant) = inr (real, e)
+  by-plan-told m (evicts e held) = inr (real, e)
+
+  pub slot-told : ((slotMovedTo (move S σ r) ≡ empty) × (moves S σ r ≡ false))
+      ⊎ ((slotMovedTo (move S σ r) ≢ empty) × (moves S σ r ≡ true))
+  slot-told = by-plan-told (move S σ r) (plan S σ r)
 
 module _ (S : Settings) (σ : State) (r : ℕ) (head-in : σ .control .head < S .q) (room : σ .control .passed + rise S σ r ≤ S .q) where
   few : skipped S σ r < S .q

@@ -9,11 +9,10 @@ use lib.ListN.{length, drop, replicate}
 use Rattle.geometry.specs.declared.Settings.{Settings}
 use Rattle.geometry.specs.Numbering.{physical}
 use Rattle.geometry.specs.Entry.{empty}
-use Rattle.banks.specs.Banks.{mostBanks}
 use Rattle.row_layout.specs.Bytes.{rowBytes, written}
 use Rattle.engine.specs.declared.Access.{Access}
 use Rattle.engine.specs.declared.Access.the-variants.{Refused, Done}
-use Rattle.engine.specs.State.{State}
+use Rattle.engine.specs.State.{State, newControl}
 use Rattle.engine.specs.Steps.{place, tracked, move, stateAfter}
 use Rattle.engine.specs.Ladder.{setUpNumber, tickNumber, inspectNumber, accessNumber, readOff, writeOff}
 
@@ -40,7 +39,7 @@ cleared S σ =
       reverse = replicate (S .q) empty;
       rows = replicate (S .b * S .k) empty;
       counts = replicate (S .b * S .k) 0;
-      control = record { head = 0; passed = 0; spill = replicate mostBanks 0; acts = replicate mostBanks 0 };
+      control = newControl;
     }
 
 unfoldable pub setUp : Settings → State → Noted

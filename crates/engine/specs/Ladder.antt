@@ -46,11 +46,13 @@ unfoldable pub trackerUnsound : Settings → ℕ → ℕ → List ℕ → Bool
 trackerUnsound S spill acts counts =
     ltb (S .l) acts || ltb acts spill || leb (S .a) spill || some (λ count. ltb acts count) counts
 
--- 'the conditions of 4 on `acts`, `spill` and counts are per bank', 'the record's places for banks from B on are .. not looked
--- at' (document 02, Ask 5); spill, acts: by bank
+-- 'the conditions of 4 on `acts`, `spill` and counts are per bank' (document 02, Ask 5): bank c; spill, acts: by bank
+abbrev pub bankUnsound : Settings → List ℕ → List ℕ → List ℕ → ℕ → Bool
+bankUnsound S spill acts counts c = trackerUnsound S (getD spill c 0) (getD acts c 0) (portion (S .k) c counts)
+
+-- 'the record's places for banks from B on are .. not looked at' (document 02, Ask 5)
 unfoldable pub trackersUnsound : Settings → List ℕ → List ℕ → List ℕ → Bool
-trackersUnsound S spill acts counts =
-    someBank (λ c. trackerUnsound S (getD spill c 0) (getD acts c 0) (portion (S .k) c counts)) (S .b)
+trackersUnsound S spill acts counts = someBank (bankUnsound S spill acts counts) (S .b)
 
 unfoldable pub controlUnsound : Settings → Control → List ℕ → Bool
 controlUnsound S control counts =

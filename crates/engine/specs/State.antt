@@ -2,14 +2,14 @@
 -- Assumes nothing.
 use Prim.Native.Nat.{ℕ}
 use mathlib.Core.List.{List}
-use lib.ListN.{length, getD, set}
+use lib.ListN.{length, getD, replicate}
 use Rattle.geometry.specs.declared.Settings.{Settings}
 use Rattle.geometry.specs.declared.Control.{Control}
 use Rattle.geometry.specs.declared.Ring.{Ring}
 use Rattle.geometry.specs.declared.Lengths.{Lengths}
 use Rattle.geometry.specs.Entry.{empty}
 use Rattle.banks.specs.Portions.{portion, withPortion}
-use Rattle.banks.specs.Banks.{bankOf}
+use Rattle.banks.specs.Banks.{mostBanks, bankOf, withNumbers}
 
 pub record State : Type 0 where
   pub store : List ℕ
@@ -52,6 +52,10 @@ ringOf control = record { head = control .head; passed = control .passed }
 abbrev pub controlOf : Ring → List ℕ → List ℕ → Control
 controlOf ring spill acts = record { head = ring .head; passed = ring .passed; spill = spill; acts = acts }
 
+-- the control record of a new history: all its numbers are 0
+abbrev pub newControl : Control
+newControl = record { head = 0; passed = 0; spill = replicate mostBanks 0; acts = replicate mostBanks 0 }
+
 -- the tracker of a bank: its rows and counts, its spillover count, and the accepted accesses that it has counted this epoch
 pub record Tracker : Type 0 where
   pub rows : List ℕ
@@ -82,7 +86,7 @@ withTracker S σ c t =
       reverse = σ .reverse;
       rows = withPortion (S .k) c (σ .rows) (t .rows);
       counts = withPortion (S .k) c (σ .counts) (t .counts);
-      control = controlOf (ringOf (σ .control)) (set (σ .control .spill) c (t .spill)) (set (σ .control .acts) c (t .acts));
+      control = withNumbers (σ .control) (ringOf (σ .control)) c (t .spill) (t .acts);
     }
 
 -- where the rows are: the store, the pointer tables, `head` and `passed`, all that step 4 reads and writes

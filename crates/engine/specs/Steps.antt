@@ -16,7 +16,8 @@ use Rattle.banks.specs.Banks.{bankOf}
 use Rattle.row_layout.specs.Bytes.{copied}
 use Rattle.engine.specs.declared.Move.{Move}
 use Rattle.engine.specs.declared.Move.the-variants.{Stayed, ToSlot, OverSlot}
-use Rattle.engine.specs.State.{State, Tracker, Storage, trackerAt, withTracker, storageOf, ringOf, controlOf, forwardOf, reverseOf}
+use Rattle.engine.specs.State.{State, Tracker, Storage, trackerAt, withTracker, storageOf}
+use Rattle.engine.specs.State.{ringOf, controlOf, forwardOf, reverseOf}
 
 -- 1. 'Place p: slot s's physical row if the row's forward entry is s, else its home.'
 abbrev pub placeBy : Settings → ℕ → ℕ → ℕ

@@ -1,6 +1,7 @@
 // What the engine of one rank answers. What each call does and answers stands in specs/: `Steps` (one access), `Ladder`
-// (the refusals) and `Calls` (the five calls). The code that meets it: crates `ladder`, `settle`, `upkeep`, `look` and
-// `access`. The definitions answer an access by the enums here, the code by their numbers (crate `figures`).
+// (the refusals) and `Calls` (the five calls). The code that meets it: crates `ladder`, `verdict`, `seek`, `settle`,
+// `upkeep`, `look` and `access`. The definitions answer an access by the enums here, the code by their numbers (crate
+// `figures`).
 use geometry::PhysicalRow;
 use geometry::Slot;
 use geometry::VisibleRow;

@@ -1,4 +1,5 @@
--- The numbers of an access, case by case. Assumes nothing.
+-- The numbers of an access, case by case. No proof cites these laws: an edit of `outcomeOf` meets them in this crate.
+-- Assumes nothing.
 use Prim.Native.Nat.{ℕ}
 use mathlib.Core.Path.{_≡_, refl}
 use Rattle.geometry.specs.Numbering.{slot, physical, visible}

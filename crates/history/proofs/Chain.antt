@@ -14,6 +14,7 @@ use Rattle.history.specs.Run.{Access, Call, inspect, Answer, Event, step
 use Rattle.history.specs.Run.{eventOf, events, OfAccepted, reportOf}
 use Rattle.history.specs.Demand2.{Memory, remember}
 use Rattle.history.specs.Estimates.{Observed, observe}
+use Rattle.history.specs.Spent.{Progress, progress}
 use Rattle.history.proofs.Groups.{not-accepted}
 
 -- an event that changes nothing: a call that was lent another length, or an inspect that tells no number
@@ -58,6 +59,11 @@ idle-accepted P (looks r z) = tt
 pub idle-observe : {e : Event} (o : Observed) → Idle e → observe o e ≡ o
 idle-observe o (misfit z) = rw z
 idle-observe o (looks r z) = rw z
+
+-- and so does one of the epoch's progress,
+pub idle-progress : {e : Event} (p : Progress) → Idle e → progress p e ≡ p
+idle-progress p (misfit z) = rw z
+idle-progress p (looks r z) = rw z
 
 -- and it writes no byte
 pub idle-memory : {e : Event} (mem : Memory) → Idle e → remember mem e ≡ mem

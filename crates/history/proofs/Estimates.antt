@@ -18,13 +18,13 @@ use Rattle.tracking.proofs.View.{estimate-new, spill-below}
 use Rattle.engine.specs.declared.Move.{Move}
 use Rattle.engine.specs.State.{State, Tracker, trackerAt}
 use Rattle.engine.specs.Answer.{slotMovedTo}
-use Rattle.engine.specs.Steps.{place, tracked, trackerAfter, counted, moves, destination, move, settled}
+use Rattle.engine.specs.Steps.{place, tracked, trackerAfter, counted, move, settled}
 use Rattle.engine.specs.Calls as calls
 use Rattle.engine.proofs.Facts.{accepted}
 use Rattle.engine.proofs.Pointers.{marks-none, place-in}
 use Rattle.engine.proofs.Trackers.{estimateFor, estimate, TracksAt, tracker-same, tracker-new, cleared-new}
 use Rattle.engine.proofs.Counting.{Estimated, estimated}
-use Rattle.engine.proofs.Moves.{tracks-access, Plan, rests, fills, evicts, plan, destination-in}
+use Rattle.engine.proofs.Moves.{tracks-access, slot-told}
 use Rattle.history.specs.Tally as tally
 use Rattle.history.specs.Tally.{hit}
 use Rattle.history.specs.Run.{Call, access, rowOf, Answer, Event, step, eventOf, OfAccepted}
@@ -32,9 +32,8 @@ use Rattle.history.specs.Estimates.{Observed, unobserved, observeAccess,
 use Rattle.history.proofs.Groups.{acceptedStep, refusedStep, ladder, storeBy, not-accepted, step-cases}
 use Rattle.history.proofs.Invariant.{Inv}
 use Rattle.history.proofs.Openings.{hit-same, hit-other}
-use Rattle.history.proofs.Calls.{carried-on}
-use Rattle.history.proofs.Chain.{Chain, end, call, idle, chain-of, idle-observe}
-use Rattle.history.proofs.History.{set-up-state, inv-set-up, inv-chain}
+use Rattle.history.proofs.Chain.{Chain, chain-of, idle-observe}
+use Rattle.history.proofs.History.{set-up-state, inv-set-up, inv-chain, followed}
 
 -- what was observed of a place against the tracker's estimate of it
 record Counted (a estimate spill accesses latest since : ℕ) : Type 0 where
@@ -149,21 +148,11 @@ module _ (S : Settings) (σ : State) (τ₀ τ : tally.Tally) (I : Inv S σ τ�
               })
         ]
 
-    slot-real : (d : ℕ) → d < S .q → d ≢ empty
-    slot-real d b = marks-none S (I .sound .ranges) d (omega arith)
-
-    -- whether a slot is answered tells whether the row was due
-    slot-told : (m : Move) → Plan S σ r m
-        → ((slotMovedTo m ≡ empty) × (moves S σ r ≡ false)) ⊎ ((slotMovedTo m ≢ empty) × (moves S σ r ≡ true))
-    slot-told m (rests e) = inl (refl, e)
-    slot-told m (fills e vacant) = inr (slot-real (destination S σ r) (destination-in S σ r (I .head-in)), e)
-    slot-told m (evicts e held) = inr (slot-real (destination S σ r) (destination-in S σ r (I .head-in)), e)
-
     concluded : (answer : Answer) → answer .slot ≡ slotMovedTo (move S σ r) → answer .estimate ≡ given
         → Conclusions S (suc (o .accesses p)) (o .latest p) (o .since p) ((tracked S σ r) .spill) answer
     concluded answer at is =
         let was = W p real in
-        let told = slot-told (move S σ r) (plan S σ r) in
+        let told = slot-told S σ r (I .sound .ranges) (I .head-in) in
         rw (at, is) (record {
           moved = λ n. elim told [ inl t ↦ absurd (n (t .0)) | inr t ↦ due (S .a) given (t .1) ];
           stayed = λ z. elim told [ inl t ↦ not-due (S .a) given (t .1) | inr t ↦ absurd (t .0 z) ];
@@ -207,15 +196,6 @@ module _ (S : Settings) (σ : State) (τ₀ τ : tally.Tally) (I : Inv S σ τ�
 
 -- ---- every list
 
-module _ (S : Settings) where
-  watched-chain : {σ σ′ : State} {es : List Event} → Chain S σ es σ′ → (τ₀ τ : tally.Tally) → Inv S σ τ₀ τ
-      → (o : Observed) → Watched S σ o → Watched S σ′ (observed o es)
-  watched-chain end τ₀ τ I o W = W
-  watched-chain (call {σ} c rest) τ₀ τ I o W =
-      watched-chain rest _ _ (carried-on S σ τ₀ τ I c .1) _ (watched-step S σ τ₀ τ I o W c)
-  watched-chain (idle {σ′ = σ′} {es} z rest) τ₀ τ I o W =
-      subst (λ (x : Observed). Watched S σ′ (observed x es)) (sym (idle-observe o z)) (watched-chain rest τ₀ τ I o W)
-
 -- any call after a chain from set-up
 pub concludes : (S : Settings) (blank : State) → (calls.setUp S blank) .number ≡ 0 → {σ : State} {es : List Event}
     → Chain S ((calls.setUp S blank) .state) es σ → (c : Call)
@@ -225,7 +205,8 @@ concludes S blank z {σ} {es} chain c =
     let R : Ranges S = I .sound .ranges in
     let begun : Watched S ((calls.setUp S blank) .state) unobserved = rw (set-up-state S blank z) (subst (λ (σ′ : State). Watched S σ′ unobserved) (cleared-new S blank (R .b-high)) (watched-new S (R .b-low) (calls.cleared S blank))) in
     let J = inv-chain S chain tally.start tally.start I in
-    concluded-step S σ (J .0) (J .1) (J .2) (observed unobserved es) (watched-chain S chain tally.start tally.start I unobserved begun) c
+    concluded-step S σ (J .0) (J .1) (J .2) (observed unobserved es)
+    (followed S observe observed (λ o. refl) (λ o e es. refl) (λ e o. idle-observe o) (Watched S) (watched-step S) chain tally.start tally.start I unobserved begun) c
 
 pub estimates : Estimates
 estimates S blank cs c z = concludes S blank z (chain-of S cs ((calls.setUp S blank) .state)) c

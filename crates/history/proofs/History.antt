@@ -1,7 +1,7 @@
 -- Every list of events after set-up: demand 3, and demand 2's tables and numbers. Assumes nothing.
 use Prim.Native.Nat.{ℕ, _*_, _<_}
 use native.Mathlib.Omega.{arith}
-use mathlib.Core.Path.{_≡_, refl, subst}
+use mathlib.Core.Path.{_≡_, refl, sym, ap, _∙_, subst}
 use mathlib.Core.Logic.{inl, inr}
 use mathlib.Core.List.{List, [], _∷_, map}
 use lib.ListN.{getD-replicate, length-replicate}
@@ -91,6 +91,20 @@ module _ (S : Settings) where
       (answers-place S σ τ₀ τ I c, places-answered rest _ _ (carried-on S σ τ₀ τ I c .1))
   places-answered (idle z rest) τ₀ τ I =
       (idle-accepted (AnswersPlace τ) z, rw (idle-feed S τ z) (places-answered rest τ₀ τ I))
+
+-- What holds of a memory and of what an observer has seen of the events, and is kept by every call under the invariant, holds
+-- after a chain (one, all: what it has seen after an event, and after a list of them).
+module _ (S : Settings) {O : Type 0} (one : O → Event → O) (all : O → List Event → O) (none : (o : O) → all o [] ≡ o)
+    (next : (o : O) (e : Event) (es : List Event) → all o (e ∷ es) ≡ all (one o e) es)
+    (unseen : (e : Event) (o : O) → Idle e → one o e ≡ o)
+    (P : State → O → Type 0)
+    (keeps : (σ : State) (τ₀ τ : tally.Tally) → Inv S σ τ₀ τ → (o : O) → P σ o → (c : Call) → P ((step S σ c) .state) (one o (eventOf c (step S σ c)))) where
+  pub followed : {σ σ′ : State} {es : List Event} → Chain S σ es σ′ → (τ₀ τ : tally.Tally) → Inv S σ τ₀ τ → (o : O) → P σ o → P σ′ (all o es)
+  followed (end {σ}) τ₀ τ I o p = subst (P σ) (sym (none o)) p
+  followed (call {σ} {σ′} {es} c rest) τ₀ τ I o p =
+      subst (P σ′) (sym (next o (eventOf c (step S σ c)) es)) (followed rest _ _ (carried-on S σ τ₀ τ I c .1) _ (keeps σ τ₀ τ I o p c))
+  followed (idle {σ} {σ′} {es} {e} z rest) τ₀ τ I o p =
+      subst (P σ′) (sym (next o e es ∙ ap (λ (x : O). all x es) (unseen e o z))) (followed rest τ₀ τ I o p)
 
 -- ---- the theorems
 

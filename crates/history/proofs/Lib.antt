@@ -9,6 +9,7 @@ pub mod Calls
 pub mod Chain
 pub mod History
 pub mod Estimates
+pub mod Spent
 pub mod AfterTick
 pub mod Memory
 pub mod Refusals

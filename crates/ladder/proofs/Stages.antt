@@ -21,8 +21,8 @@ use Rattle.banks.specs.Portions.{portion}
 use Rattle.banks.specs.Banks.{mostBanks, someBank}
 use Rattle.banks.proofs.Banks.{bank-first}
 use Rattle.engine.specs.State.{State, lengthsOf, trackerOf, ringOf, forwardOf}
-use Rattle.engine.specs.Ladder.{stops, _▹_, ringUnsound, trackerUnsound, trackersUnsound, controlUnsound, fitNumber, rowNumber, setUpNumber, tickNumber}
-use Rattle.ladder.specs.Stages.{firstBankNumber, bankUnsound, othersUnsound}
+use Rattle.engine.specs.Ladder.{stops, _▹_, ringUnsound, trackerUnsound, bankUnsound, trackersUnsound, controlUnsound, fitNumber, rowNumber, setUpNumber, tickNumber}
+use Rattle.ladder.specs.Stages.{firstBankNumber, othersUnsound}
 use Rattle.engine.proofs.Rungs.{pass, unmet, halts, goes-on, joined}
 use Rattle.engine.proofs.Facts.{settings-facts, Fit, fit, Steady, steady, tick-facts}
 

@@ -3,13 +3,12 @@
 use Prim.Native.Nat.{ℕ, suc, _-_}
 use mathlib.Core.Bool.{Bool, _||_}
 use mathlib.Core.List.{List}
-use lib.ListN.{getD, take}
+use lib.ListN.{take}
 use Rattle.geometry.specs.declared.Settings.{Settings}
 use Rattle.geometry.specs.declared.Ring.{Ring}
 use Rattle.geometry.specs.declared.Lengths.{Lengths}
-use Rattle.banks.specs.Portions.{portion}
 use Rattle.banks.specs.Banks.{someBank}
-use Rattle.engine.specs.Ladder.{stops, _▹_, fitNumber, ringUnsound, trackerUnsound}
+use Rattle.engine.specs.Ladder.{stops, _▹_, fitNumber, ringUnsound, trackerUnsound, bankUnsound}
 
 abbrev pub lengthsBy : ℕ → ℕ → ℕ → ℕ → ℕ → Lengths
 lengthsBy store forward reverse rows counts =
@@ -20,10 +19,6 @@ unfoldable pub firstBankNumber : Settings → Lengths → Ring → ℕ → ℕ �
 firstBankNumber S lent ring spill acts counts =
     fitNumber S lent ▹ stops (ringUnsound S ring || trackerUnsound S spill acts (take (S .k) counts)) 4
 
--- 4 applies because of bank c (spill, acts: by bank)
-abbrev pub bankUnsound : Settings → List ℕ → List ℕ → List ℕ → ℕ → Bool
-bankUnsound S spill acts counts c = trackerUnsound S (getD spill c 0) (getD acts c 0) (portion (S .k) c counts)
-
--- 4 applies because of a bank from the second on
+-- 4 applies because of a bank from the second on (spill, acts: by bank)
 unfoldable pub othersUnsound : Settings → List ℕ → List ℕ → List ℕ → Bool
 othersUnsound S spill acts counts = someBank (λ c. bankUnsound S spill acts counts (suc c)) (S .b - 1)

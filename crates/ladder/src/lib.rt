@@ -1,4 +1,5 @@
-// The refusals that need no tracker: 1 to 7, in the order of document 01. Nothing lent is written here.
+// The refusals that come before step 2: 1 to 7, where 7 is that of the row's pointers, in the order of document 01. Nothing
+// lent is written here.
 ghost use mathlib.Core.Path.{_≡_};
 ghost use Prim.Native.Nat.{_*_, _≤_};
 ghost use lib.ListN.{length, getD};

@@ -11,8 +11,8 @@ use Rattle.geometry.specs.declared.Settings.{Settings}
 use Rattle.geometry.proofs.Tests.{and-left, and-right}
 use Rattle.conditions.specs.Conditions.{rangesHold}
 use Rattle.conditions.proofs.Facts.{ranges-facts}
-use Rattle.engine.specs.State.{stateOf}
-use Rattle.trace_steps.specs.Steps.{newControl, runLines}
+use Rattle.engine.specs.State.{stateOf, newControl}
+use Rattle.trace_steps.specs.Steps.{runLines}
 use Rattle.trace_steps.proofs.Blank.{Part, part}
 use Rattle.replay.specs.Memory.{storeBytes, trackerEntries, lent, memoryFits, mostStore, mostRows, mostSlots, mostEntries}
 

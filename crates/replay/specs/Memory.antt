@@ -5,8 +5,7 @@ use mathlib.Core.Bool.{Bool, _&&_}
 use lib.Dec.{leb}
 use lib.ListN.{replicate}
 use Rattle.geometry.specs.declared.Settings.{Settings}
-use Rattle.engine.specs.State.{State}
-use Rattle.trace_steps.specs.Steps.{newControl}
+use Rattle.engine.specs.State.{State, newControl}
 
 -- '(N + Q) × W bytes'
 abbrev pub storeBytes : Settings → ℕ

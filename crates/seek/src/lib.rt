@@ -81,8 +81,8 @@ fn slot_after(s: Settings, slot: u32) -> u32
     slot + 1
 }
 
-// Returns how many of so many slots from one on, round Q, are skipped before the first that is not. The tracker is
-// searched for each.
+// Returns how many of so many slots from one on, round Q, are skipped before the first that is not. For each the tracker
+// of its bank is searched.
 fn skipped_by_scan(
     s: Settings,
     entry: ForwardEntry,
@@ -116,8 +116,7 @@ fn unmarked() -> [bool; 5500]
     [false; 5500]
 }
 
-// Marks the slot whose physical row an entry of a bank names as worn or not, where it names one of that bank. (first: the
-// physical row of slot 0)
+// Marks the slot whose physical row an entry of a bank names as worn or not, where it names one of that bank.
 fn mark(s: Settings, bank: usize, name: u16, is: bool, marks: &mut [bool])
     requires { ⌜ 1 ≤ s .b ⌝ }
     ensures { λ _. ⌜ now (marks .exit) ≡ markedBy s bank name is (now (marks .entry)) ⌝ }
@@ -194,7 +193,7 @@ fn skipped_by_marks(s: Settings, entry: ForwardEntry, from: u32, most: u32, mark
     n
 }
 
-// Returns the same as `skipped_by_scan`, with one pass over the tracker.
+// Returns the same as `skipped_by_scan`, with one pass over the trackers.
 fn skipped_by_marking(
     s: Settings,
     entry: ForwardEntry,

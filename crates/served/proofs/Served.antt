@@ -4,6 +4,7 @@ use mathlib.Core.Path.{_≡_, refl, sym, ap, _∙_, subst}
 use mathlib.Core.Logic.{_≢_, inl}
 use mathlib.Core.Bool.{false}
 use mathlib.Core.List.{List, [], _∷_, map}
+use native.Mathlib.Nat.{suc-ne-zero}
 use native.Mathlib.Omega.{arith}
 use Rattle.geometry.specs.declared.Settings.{Settings}
 use Rattle.conditions.specs.Conditions.{lengthsHold}
@@ -24,16 +25,18 @@ use Rattle.history.specs.Demand3.{Kept}
 use Rattle.history.specs.Tally as tally
 use Rattle.history.specs.Run.{OfAccepted, Each, OneOf}
 use Rattle.history.specs.Estimates.{unobserved, observed, Concludes}
+use Rattle.history.specs.Spent.{begun as new-epoch, progressed, Spent}
 use Rattle.history.proofs.Invariant.{Inv}
 use Rattle.history.proofs.Groups.{ladder, step-number}
 use Rattle.history.proofs.Chain.{Chain, end, call, idle, Idle, misfit as lent-misfit, looks}
 use Rattle.history.proofs.History.{inv-set-up, inv-chain, kept, usual-number}
 use Rattle.history.proofs.Estimates.{concludes}
+use Rattle.history.proofs.Spent.{spent-late}
 use Rattle.history.proofs.Memory.{returned}
 use Rattle.history.specs.Demand1.{allowed, bufferOf}
 use Rattle.history.proofs.Refusals.{demand-1}
 use Rattle.served.specs.Transcript.{Exchange, read, write, tick, inspectNumber, inspectSpan, Promised, Logged, whole, misfit, Meets, Transcript, answerOf, seen, seenOf}
-use Rattle.served.specs.Claims.{Proper, Demand1Served, Demand3Served, Answers3, NumberOccurs, Preserved, Demand2Served, EstimatesServed, BeginningsServed}
+use Rattle.served.specs.Claims.{Proper, Demand1Served, Demand3Served, Answers3, NumberOccurs, Preserved, Demand2Served, EstimatesServed, NotSpentEarlyServed, BeginningsServed}
 
 -- ---- one exchange
 
@@ -241,6 +244,11 @@ module _ (S : Settings) (blank σ σ′ : State) (es : List Logged) (begun : Set
       (sym (told S σ′ after x tells p))
       (concludes S blank zero whole-chain ((seen x) .call))
 
+  spent : (after : State) (x : Exchange) → Tells x → Promised S σ′ x after → (seen x) .answer .number ≡ 9
+      → Spent S (progressed new-epoch (map seenOf es))
+  spent after x tells p e =
+      spent-late S blank zero whole-chain ((seen x) .call) (ap (λ (s : run.Step). s .answer .number) (sym (told S σ′ after x tells p)) ∙ e)
+
 pub demand-3-served : Demand3Served
 demand-3-served S blank σ σ′ es begun t = kept-served S blank σ σ′ es begun t
 
@@ -252,6 +260,13 @@ estimates-served S blank σ between σ′ es x begun t =
     exchange-cases (λ x. Promised S between x σ′ → OfAccepted (Concludes S (observed unobserved (map seenOf es)) σ′) (seen x))
     (concluded S blank σ between es begun t σ′)
     (λ row span p. tt)
+    x
+
+pub not-spent-early-served : NotSpentEarlyServed
+not-spent-early-served S blank σ between σ′ es x begun t =
+    exchange-cases (λ x. Promised S between x σ′ → (seen x) .answer .number ≡ 9 → Spent S (progressed new-epoch (map seenOf es)))
+    (spent S blank σ between es begun t σ′)
+    (λ row span p e. absurd (suc-ne-zero 8 (sym e)))
     x
 
 pub beginnings-served : BeginningsServed

@@ -1,5 +1,5 @@
--- Demands 1, 2 and 3 of the C functions, and what their estimates tell. The proofs are `demand-1-served` to
--- `demand-3-served` and `estimates-served` of proofs/Served.antt.
+-- Demands 1, 2 and 3 of the C functions, what their estimates tell, and how far an epoch is when one answers 9. The proofs are
+-- `demand-1-served` to `demand-3-served`, `estimates-served` and `not-spent-early-served` of proofs/Served.antt.
 -- Assumes nothing.
 use Prim.Native.Nat.{ℕ, _<_}
 use mathlib.Core.Path.{_≡_}
@@ -16,6 +16,7 @@ use Rattle.history.specs.Demand1.{allowed, bufferOf}
 use Rattle.history.specs.Demand2.{Memory, standing, remembered, IsRow, RowsReturned}
 use Rattle.history.specs.Demand3.{Kept}
 use Rattle.history.specs.Estimates.{unobserved, observed, Concludes}
+use Rattle.history.specs.Spent.{begun, progressed, Spent}
 use Rattle.served.specs.Transcript.{Exchange, read, write, tick, inspectNumber, inspectSpan}
 use Rattle.served.specs.Transcript.{Promised, Logged, whole, misfit, Transcript, seen, seenOf}
 
@@ -72,6 +73,13 @@ abbrev pub EstimatesServed : Type 0
 EstimatesServed = (S : Settings) (blank σ between σ′ : State) (es : List Logged) (x : Exchange)
     → SetUpPromise S blank σ 0 → Transcript S σ es between → Promised S between x σ′
     → OfAccepted (Concludes S (observed unobserved (map seenOf es)) σ′) (seen x)
+
+-- For all settings and all lent memory: if `aqua_set_up` answered 0, and a call after any transcript from there gets 9, then
+-- the epoch is as far as `Spent` of crate `history` says.
+abbrev pub NotSpentEarlyServed : Type 0
+NotSpentEarlyServed = (S : Settings) (blank σ between σ′ : State) (es : List Logged) (x : Exchange)
+    → SetUpPromise S blank σ 0 → Transcript S σ es between → Promised S between x σ′
+    → (seen x) .answer .number ≡ 9 → Spent S (progressed begun (map seenOf es))
 
 -- Every beginning of a transcript is a transcript, so that demands 2 and 3 hold after every call of it.
 abbrev pub BeginningsServed : Type 0

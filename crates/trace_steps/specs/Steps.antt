@@ -5,9 +5,7 @@ use mathlib.Core.Bool.{Bool, true, false, cond, _&&_}
 use mathlib.Core.List.{List, [], _∷_, _++_, map}
 use lib.Dec.{eqb}
 use lib.ListN.{replicate}
-use Rattle.geometry.specs.declared.Control.{Control}
 use Rattle.geometry.specs.declared.Settings.{Settings}
-use Rattle.banks.specs.Banks.{mostBanks}
 use Rattle.engine.specs.State.{State}
 use Rattle.engine.specs.Calls.{setUp}
 use Rattle.history.specs.Run.{read, Call, access, tick, inspect, Answer, Event, step, events}
@@ -73,7 +71,3 @@ linesFrom i (e ∷ es) = lineBytes i (lineOf e) ++ linesFrom (suc i) es
 -- set-up on the memory lent, and then the steps: what is printed
 abbrev pub runLines : Settings → State → List ℕ → List ℕ
 runLines S σ steps = linesFrom 1 (stepsFrom S ((setUp S σ) .state) steps)
-
--- the control record that set-up gets; spill, acts: by bank
-abbrev pub newControl : Control
-newControl = record { head = 0; passed = 0; spill = replicate mostBanks 0; acts = replicate mostBanks 0 }

@@ -2,8 +2,8 @@
 ghost use mathlib.Core.Path.{_≡_};
 ghost use Prim.Native.Nat.{_*_, _≤_};
 ghost use lib.ListN.{length, take, replicate};
-ghost use Rattle.engine.specs.State.{stateOf};
-ghost use Rattle.trace_steps.specs.Steps.{widest, lineRoom, steppedOf, stepped, newControl, runLines};
+ghost use Rattle.engine.specs.State.{stateOf, newControl};
+ghost use Rattle.trace_steps.specs.Steps.{widest, lineRoom, steppedOf, stepped, runLines};
 use geometry::Control;
 use geometry::Settings;
 use lines::Line;

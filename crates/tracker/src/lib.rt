@@ -77,7 +77,7 @@ pub fn clear_counts(counts: &mut [u32])
     }
 }
 
-// The tracker as it is at the start of an epoch: no entry names a place, and every count is 0.
+// The trackers of all banks as they are at the start of an epoch: no entry names a place, and every count is 0.
 pub fn reset(rows: &mut [u16], counts: &mut [u32])
     ensures rows { λ _. ⌜ now (rows .exit) ≡ replicate (length (now (rows .entry))) empty ⌝ }
     ensures counts { λ _. ⌜ now (counts .exit) ≡ replicate (length (now (counts .entry))) 0 ⌝ }

@@ -65,7 +65,7 @@ fn zero_below(numbers: [u32; 16], b: usize) -> [u32; 16]
     next
 }
 
-// Tick: returns its number, and makes the tracker as new where it is 0.
+// Tick: returns its number, and makes the trackers as new where it is 0.
 pub fn tick(
     control: Control,
     s: Settings,

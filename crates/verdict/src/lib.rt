@@ -1,7 +1,8 @@
-// What is decided of an access that 1 to 7 let pass: the place of its row (step 1), whether it moves its row (step 4), and
+// What is decided of an access that 1 to 7 let pass: the place of its row (step 1), 8, whether it moves its row (step 4), and
 // then 9 and the destination's 7. Nothing lent is written here.
 ghost use mathlib.Core.Path.{_≡_};
 ghost use Prim.Native.Nat.{_<_, _≤_};
+ghost use lib.Dec.{eqb};
 ghost use lib.ListN.{length};
 ghost use Rattle.geometry.specs.Numbering.{slot, physical};
 ghost use Rattle.tracking.specs.Track.{isDue};
@@ -46,6 +47,13 @@ pub fn place(s: Settings, row: VisibleRow, entry: ForwardEntry) -> PhysicalRow
         return geometry::home(row);
     }
     geometry::slot_row(s, entry.slot())
+}
+
+// Tells whether 8 applies, where the place's bank has had so many accepted accesses.
+pub fn is_full(s: Settings, acts: u32) -> bool
+    ensures { λ r. ⌜ r ≡ eqb acts (s .l) ⌝ }
+{
+    acts == s.l
 }
 
 // Returns the slot after so many slots from `head` on, round Q.

@@ -112,9 +112,9 @@ fn run(s: Settings, steps: &[Vec<u32>], counts: &mut Counts) -> Result<Ran, Stri
 /// read A times each and take the slots of their numbers. In the second they are read A times again, there: row i leaves
 /// slot i worn, by its bank's only entry, and takes slot B + i, as long as there is one. With 2 B - 1 slots there is none
 /// for row B - 1: the head is at slot 0 again, with B - 1 slots gone by; slots 0 to B - 2 are worn, B - 1 is the row's
-/// own, and slot B is free, since the only entry of its bank names slot 0. That would be B + 1 slots more, 2 B in all: a
-/// 9. So for B = 2 the settings are `4 3 1 1 A A 2`, and the steps A times 0, A times 1, a tick, A times 0, A times 1.
-/// With 2 B slots row B - 1 takes the last.
+/// own, and slot B, in which row 0 is now, is not worn, since the only entry of its bank names slot 0. That would be
+/// B + 1 slots more, 2 B in all: a 9. So for B = 2 the settings are `4 3 1 1 A A 2`, and the steps A times 0, A times 1,
+/// a tick, A times 0, A times 1. With 2 B slots row B - 1 takes the last.
 fn one_slot_short(a: u32, b: u32, counts: &mut Counts) -> Result<bool, String> {
     let burst = |row: u32| vec![row; a as usize];
     let tick = vec![TICK];

@@ -52,6 +52,7 @@ impl Watcher {
             }
         }
         self.estimates.feed(s, call, answer, &pair.library.control)?;
+        self.tally.judge_nine(s, answer)?;
         let figures = self.tally.feed(call, answer);
         if let Some(figures) = &figures {
             tally::judge(s, figures)?;

@@ -21,6 +21,8 @@ pub struct Tally {
     openings: Vec<u64>,
     quarantines: u64,
     spent: u64,
+    /// Accepted accesses of the epoch so far.
+    accesses: u64,
     /// Cumulative counts as they stood when the epoch began.
     openings_then: Vec<u64>,
     quarantines_then: u64,
@@ -37,6 +39,7 @@ impl Tally {
             openings: vec![0; n + q],
             quarantines: 0,
             spent: 0,
+            accesses: 0,
             openings_then: vec![0; n + q],
             quarantines_then: 0,
             spent_then: 0,
@@ -64,6 +67,7 @@ impl Tally {
                 self.openings_then.clone_from(&self.openings);
                 self.quarantines_then = self.quarantines;
                 self.spent_then = self.spent;
+                self.accesses = 0;
                 Some(figures)
             }
             Call::Tick | Call::SetUp | Call::Inspect { .. } => None,
@@ -73,6 +77,7 @@ impl Tally {
     fn access(&mut self, row: usize, slot: u32, sent_home: u32) {
         let place = self.places[row];
         self.openings[place] += 1;
+        self.accesses += 1;
         if slot == NONE {
             return;
         }
@@ -92,6 +97,18 @@ impl Tally {
     /// Openings of one physical row in the epoch so far.
     fn opened(&self, physical: usize) -> u64 {
         self.openings[physical] - self.openings_then[physical]
+    }
+
+    /// Judges that a 9, if that is what the last call got, does not come early: two slots for each quarantine of the
+    /// epoch so far are all slots but one at least, and each quarantine, the refused one included, took A accesses.
+    pub fn judge_nine(&self, s: &Settings, answer: &Answer) -> Result<(), String> {
+        let quarantines = self.quarantines - self.quarantines_then;
+        let late = u64::from(s.q) <= 2 * quarantines + 1 && u64::from(s.a) * (quarantines + 1) <= self.accesses + 1;
+        if answer.number != 9 || late {
+            Ok(())
+        } else {
+            Err(format!("9 after {quarantines} quarantines and {} accesses of an epoch, {s:?}", self.accesses))
+        }
     }
 
     /// The figures of the epoch so far.

@@ -6,6 +6,7 @@ use mathlib.Core.Bool.{Bool}
 use mathlib.Core.List.{List}
 use lib.ListN.{length}
 use borrow.Author.Needs.{needs}
+use borrow.Author.Tests.{eqb-true, eqb-false}
 use Rattle.geometry.specs.declared.Settings.{Settings}
 use Rattle.geometry.specs.declared.ForwardEntry.{ForwardEntry}
 use Rattle.engine.specs.State.{State, stateOf}
@@ -146,7 +147,7 @@ module _ (w : tie.After-estimate) where
         banked = banked own-bank;
         spilled = own-numbers .before .number-of .ensures;
         acted = own-numbers .number-of2 .ensures;
-        more = at-find .before .before .before .before .if4 .left;
+        more = eqb-false _ _ (let e = at-find .before .before .before .before in sym (e .before .is-full .ensures) ∙ e .if4 .left);
         found = at-find .find .ensures;
         estimated = w .estimate .ensures;
       }
@@ -237,7 +238,8 @@ returns-4 : tie.Need-returns-4
 returns-4 c =
     let b = c .before .before .before .before .before .before .before in
     let a = start₄ b in
-    let full = sym (acts-are (banked b) (c .before .before .before .number-of2 .ensures)) ∙ c .before .if4 .taken in
+    let met = eqb-true _ _ (sym (c .before .before .is-full .ensures) ∙ c .before .if4 .taken) in
+    let full = sym (acts-are (banked b) (c .before .before .before .number-of2 .ensures)) ∙ met in
     let eight = access-8 (s a) (σ a) (r a) (off a) (banked b .entered .early-0) full in
     write-refused (s a) (σ a) (r a) (column a) (bytes a) (c .refused4 .ensures) eight (λ z. omega arith)
 
@@ -276,8 +278,8 @@ write-row-requires c κs =
     let taken = goes-taken (goes-there y) in
     (bytes-fit (s a) (σ a) (r a) (column a) (bytes a) taken, place-inside taken)
 
-cast-t83 : tie.Need-cast-t83
-cast-t83 c =
+cast-t84 : tie.Need-cast-t84
+cast-t84 c =
     let y = c .before .before .before .before .before in
     omega (arith, row-small (seen (at-estimate (y .before)) .banked .entered))
 
@@ -345,6 +347,7 @@ write-spec =
     number-of-requires
     number-of-requires-2
     (λ c κs. search needs)
+    (λ c κs. search needs)
     (λ c. search needs) (λ c. search needs) (λ c. search needs) (λ c. search needs) (λ c. search needs)
     returns-4
     (λ c. search needs)
@@ -359,7 +362,7 @@ write-spec =
     returns-5
     (λ c. search needs)
     write-row-requires
-    cast-t83
+    cast-t84
     go-requires
     (λ c. search needs) (λ c. search needs) (λ c. search needs) (λ c. search needs) (λ c. search needs)
     returns-6

@@ -9,8 +9,8 @@ use Rattle.geometry.specs.declared.Settings.{Settings}
 use Rattle.banks.specs.Banks.{someBank}
 use Rattle.banks.proofs.Portions.{portion-lent, portion-fits}
 use Rattle.banks.proofs.Banks.{bank-more}
-use Rattle.engine.specs.Ladder.{trackerUnsound}
-use Rattle.ladder.specs.Stages.{bankUnsound, othersUnsound}
+use Rattle.engine.specs.Ladder.{trackerUnsound, bankUnsound}
+use Rattle.ladder.specs.Stages.{othersUnsound}
 use borrow.Author.Needs.{needs}
 use Rattle.ladder.proofs.others_unsound.Statement.{statement}
 use Rattle.ladder.proofs.others_unsound.Tie as tie

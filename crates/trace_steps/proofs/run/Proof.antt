@@ -2,8 +2,7 @@
 use Prim.Native.Nat.{_-_}
 use mathlib.Core.Path.{_≡_, refl, _∙_}
 use lib.ListN.{length}
-use Rattle.engine.specs.State.{State, stateOf}
-use Rattle.trace_steps.specs.Steps.{newControl}
+use Rattle.engine.specs.State.{State, stateOf, newControl}
 use Rattle.trace_steps.proofs.Running.{Running, SameLengths, running-none, running-more, running-all}
 use Rattle.trace_steps.proofs.Running.{room-left, all-short, still-less}
 use borrow.Author.Needs.{needs}
