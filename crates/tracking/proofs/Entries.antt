@@ -26,11 +26,11 @@ followed i estimate p rows counts spill =
 
 rows-after-long : (i estimate p : ℕ) (rows : List ℕ) → length (rowsAfter i estimate p rows) ≡ length rows
 unfolding rowsAfter
-rows-after-long i estimate p rows = elim (split (eqb estimate 0)) [ inl e ↦ rw e | inr e ↦ rw e (length-set rows i p) ]
+rows-after-long i estimate p rows = elim (split (eqb estimate 0)) [ inl e ↦ rw e | inr e ↦ rw e (length-set rows i _) ]
 
 counts-after-long : (i estimate : ℕ) (counts : List ℕ) → length (countsAfter i estimate counts) ≡ length counts
 unfolding countsAfter
-counts-after-long i estimate counts = elim (split (eqb estimate 0)) [ inl e ↦ rw e | inr e ↦ rw e (length-set counts i estimate) ]
+counts-after-long i estimate counts = elim (split (eqb estimate 0)) [ inl e ↦ rw e | inr e ↦ rw e (length-set counts i _) ]
 
 module _ (p : ℕ) (rows counts : List ℕ) (spill : ℕ) (long : length rows ≡ length counts) where
   pub follow-entry : followed (entryOf p rows counts spill) (estimateAt (entryOf p rows counts spill) (length counts) counts) p rows counts spill

@@ -1,4 +1,5 @@
 -- `upkeep::tick`: refused by its number, or the trackers reset. Assumes nothing.
+use native.Mathlib.Omega.{arith}
 use Prim.Native.Nat.{_≤_}
 use Rattle.banks.specs.Banks.{mostBanks}
 use Rattle.engine.specs.State.{State, stateOf}
@@ -53,10 +54,10 @@ banks-few e =
     tick-banks (begun n .args .s) (lent (begun n)) (n .tick-number .result) (n .tick-number .ensures) (e .if1 .left)
 
 zero-below-requires : tie.Need-zero-below-requires
-zero-below-requires c κs = banks-few (passed (c .before .before .before .before .before .before .before))
+zero-below-requires c κs = omega (arith, banks-few (passed (c .before .before .before .before .before .before .before)))
 
 zero-below-requires-2 : tie.Need-zero-below-requires-2
-zero-below-requires-2 c κs = banks-few (passed (c .before .before .before .before .before .before .before .before))
+zero-below-requires-2 c κs = omega (arith, banks-few (passed (c .before .before .before .before .before .before .before .before)))
 
 same-length-3 : tie.Need-same-length-3
 same-length-3 c = search needs
