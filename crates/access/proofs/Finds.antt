@@ -19,7 +19,7 @@ use Rattle.banks.proofs.Banks.{bank-in}
 use Rattle.scan.proofs.Loops.{counts-below}
 use Rattle.tracking.specs.Track.{isDue}
 use Rattle.tracking.proofs.Due.{due-some}
-use Rattle.tracking.specs.Entry.{entryIn, estimateAt, rowsAfter, countsAfter, spillAfter}
+use Rattle.tracking.specs.Entry.{entryIn, estimateAt, tableAfter, spillAfter}
 use Rattle.tracking.proofs.Banks.{entry-in-bank, estimate-in, spill-in, rows-in, counts-in}
 use Rattle.engine.specs.State.{State, Tracker, trackerAt, forwardOf}
 use Rattle.engine.specs.Steps.{placeBy, place, tracked, counted, moves, skipped}
@@ -80,29 +80,29 @@ module _ {S : Settings} {σ : State} {r : ℕ} {off : Bool} {e : ForwardEntry} (
 
 module _ {S : Settings} {σ : State} {r : ℕ} {off : Bool} {e : ForwardEntry} {p : PhysicalRow} {bank : ℕ}
     (B : Banked S σ r off e p bank) where
-  abbrev home : ℕ
-  home = bankOf S (place S σ r)
+  abbrev place-bank : ℕ
+  place-bank = bankOf S (place S σ r)
 
   good : Checked S σ
   good = fits (B .entered)
 
-  home-in : home < S .b
-  home-in = bank-in S (place S σ r) (good .ranges .b-low)
+  place-bank-in : place-bank < S .b
+  place-bank-in = bank-in S (place S σ r) (good .ranges .b-low)
 
-  rows-room : home * S .k + S .k ≤ length (σ .rows)
-  rows-room = portion-fits (S .k) (S .b) home (length (σ .rows)) (good .lengths .rows) home-in
+  rows-room : place-bank * S .k + S .k ≤ length (σ .rows)
+  rows-room = portion-fits (S .k) (S .b) place-bank (length (σ .rows)) (good .lengths .rows) place-bank-in
 
-  counts-room : home * S .k + S .k ≤ length (σ .counts)
-  counts-room = portion-fits (S .k) (S .b) home (length (σ .counts)) (good .lengths .counts) home-in
+  counts-room : place-bank * S .k + S .k ≤ length (σ .counts)
+  counts-room = portion-fits (S .k) (S .b) place-bank (length (σ .counts)) (good .lengths .counts) place-bank-in
 
   pub place-is : p ≡ physical (place S σ r)
   place-is = B .placed ∙ ap (λ (x : ℕ). physical (placeBy S x r)) (B .entered .entry-is)
 
-  pub bank-is : bank ≡ home
+  pub bank-is : bank ≡ place-bank
   bank-is = B .banked ∙ ap (λ (x : PhysicalRow). bankOf S (x .0)) place-is
 
   pub bank-small : bank < mostBanks
-  bank-small = omega (arith, bank-is, home-in, good .ranges .b-high)
+  bank-small = omega (arith, bank-is, place-bank-in, good .ranges .b-high)
 
   place-small : p .0 < 65536
   place-small = bankable (B .entered) (B .placed) .1
@@ -129,31 +129,31 @@ module _ {S : Settings} {σ : State} {r : ℕ} {off : Bool} {e : ForwardEntry} {
     spill-is = spilled ∙ ap (λ (c : ℕ). getD (σ .control .spill) c 0) bank-is
 
     spill-small : spill < 65536
-    spill-small = omega (arith, spill-is, good .steady .banks home home-in .spill-below, good .ranges .a-high)
+    spill-small = omega (arith, spill-is, good .steady .banks place-bank place-bank-in .spill-below, good .ranges .a-high)
 
     -- i: the entry that step 2 changes
     module _ {i : ℕ} (found : i ≡ entryIn (S .k) bank (p .0) (σ .rows) (σ .counts) spill) where
-      entry-found : i ≡ entryIn (S .k) home (place S σ r) (σ .rows) (σ .counts) (t .spill)
+      entry-found : i ≡ entryIn (S .k) place-bank (place S σ r) (σ .rows) (σ .counts) (t .spill)
       entry-found =
           found ∙ ap (λ (x : PhysicalRow). entryIn (S .k) bank (x .0) (σ .rows) (σ .counts) spill) place-is
           ∙ ap (λ (c : ℕ). entryIn (S .k) c (place S σ r) (σ .rows) (σ .counts) spill) bank-is
-          ∙ ap (entryIn (S .k) home (place S σ r) (σ .rows) (σ .counts)) spill-is
+          ∙ ap (entryIn (S .k) place-bank (place S σ r) (σ .rows) (σ .counts)) spill-is
 
-      entry-low : home * S .k ≤ i
+      entry-low : place-bank * S .k ≤ i
       unfolding entryIn
       entry-low = omega (arith, entry-found)
 
       -- a count of the bank can rise by 1
-      count-fits : i < home * S .k + S .k → getD (σ .counts) i 0 < 4294967295
+      count-fits : i < place-bank * S .k + S .k → getD (σ .counts) i 0 < 4294967295
       count-fits high =
-          let own : List ℕ = portion (S .k) home (σ .counts) in
-          let j : ℕ = i - home * S .k in
-          let at : home * S .k + j ≡ i = add-sub-of-le entry-low in
+          let mine : List ℕ = portion (S .k) place-bank (σ .counts) in
+          let j : ℕ = i - place-bank * S .k in
+          let at : place-bank * S .k + j ≡ i = add-sub-of-le entry-low in
           let inside : j < S .k = omega arith in
-          let long : j < length own = omega (arith, length-portion (S .k) home (σ .counts) counts-room) in
-          let low : getD own j 0 ≤ 4294967294 = counts-below own 4294967294 j (good .counts home home-in) long in
-          let same : getD own j 0 ≡ getD (σ .counts) i 0 =
-          getD-portion (S .k) home (σ .counts) counts-room j 0 inside ∙ ap (λ (x : ℕ). getD (σ .counts) x 0) at in
+          let long : j < length mine = omega (arith, length-portion (S .k) place-bank (σ .counts) counts-room) in
+          let low : getD mine j 0 ≤ 4294967294 = counts-below mine 4294967294 j (good .counts place-bank place-bank-in) long in
+          let same : getD mine j 0 ≡ getD (σ .counts) i 0 =
+          getD-portion (S .k) place-bank (σ .counts) counts-room j 0 inside ∙ ap (λ (x : ℕ). getD (σ .counts) x 0) at in
           omega (arith, low, same)
 
       -- what `estimate` asks
@@ -199,17 +199,17 @@ module _ {S : Settings} {σ : State} {r : ℕ} {off : Bool} {e : ForwardEntry} {
       rw (spill-is here (F .spilled), estimate-told)
       (spill-in (S .k) c₀ (σ .rows) (σ .counts) (rows-room here) (counts-room here) p₀ spill₀)
 
-  pub rows-then : rowsAfter (f .entry) (f .estimate) (f .place .0) (σ .rows) ≡ (counted S σ r) .rows
+  pub rows-then : tableAfter (f .entry) (f .estimate) (f .place .0) (σ .rows) ≡ (counted S σ r) .rows
   rows-then =
-      ap (λ (x : PhysicalRow). rowsAfter (f .entry) (f .estimate) (x .0) (σ .rows)) (place-is here)
-      ∙ ap (λ (x : ℕ). rowsAfter x (f .estimate) p₀ (σ .rows)) entry-told
-      ∙ ap (λ (x : ℕ). rowsAfter i₀ x p₀ (σ .rows)) estimate-told
+      ap (λ (x : PhysicalRow). tableAfter (f .entry) (f .estimate) (x .0) (σ .rows)) (place-is here)
+      ∙ ap (λ (x : ℕ). tableAfter x (f .estimate) p₀ (σ .rows)) entry-told
+      ∙ ap (λ (x : ℕ). tableAfter i₀ x p₀ (σ .rows)) estimate-told
       ∙ rows-in (S .k) c₀ (σ .rows) (σ .counts) (rows-room here) (counts-room here) p₀ spill₀
 
-  pub counts-then : countsAfter (f .entry) (f .estimate) (σ .counts) ≡ (counted S σ r) .counts
+  pub counts-then : tableAfter (f .entry) (f .estimate) (f .estimate) (σ .counts) ≡ (counted S σ r) .counts
   counts-then =
-      ap (λ (x : ℕ). countsAfter x (f .estimate) (σ .counts)) entry-told
-      ∙ ap (λ (x : ℕ). countsAfter i₀ x (σ .counts)) estimate-told
+      ap (λ (x : ℕ). tableAfter x (f .estimate) (f .estimate) (σ .counts)) entry-told
+      ∙ ap (λ (x : ℕ). tableAfter i₀ x x (σ .counts)) estimate-told
       ∙ counts-in (S .k) c₀ (σ .rows) (σ .counts) (rows-room here) (counts-room here) p₀ spill₀
 
   entry-inside : f .estimate ≢ 0 → f .entry < c₀ * S .k + S .k
@@ -222,7 +222,7 @@ module _ {S : Settings} {σ : State} {r : ℕ} {off : Bool} {e : ForwardEntry} {
       elim (lt? (f .acts) (S .l)) [
         | inl h ↦ h
         | inr h ↦
-            let most : trackerAt S σ p₀ .acts ≤ S .l = good here .steady .banks c₀ (home-in here) .acts-in in
+            let most : trackerAt S σ p₀ .acts ≤ S .l = good here .steady .banks c₀ (place-bank-in here) .acts-in in
             absurd (F .more (omega (arith, acts-are here (F .acted), most)))
       ]
 

@@ -15,7 +15,7 @@ use Rattle.geometry.specs.declared.PhysicalRow.{PhysicalRow}
 use Rattle.geometry.specs.Entry.{empty}
 use Rattle.geometry.proofs.Cases.{split}
 use Rattle.banks.specs.Banks.{mostBanks, withNumbers}
-use Rattle.tracking.specs.Entry.{rowsAfter, countsAfter}
+use Rattle.tracking.specs.Entry.{tableAfter}
 use Rattle.row_layout.specs.Bytes.{rowBytes, written}
 use Rattle.row_layout.proofs.Laws.{length-written}
 use Rattle.engine.specs.State.{State, stateOf, Storage, storageOf, ringOf, reverseOf}
@@ -44,8 +44,8 @@ Serves a left t given = (t .bank < mostBanks) × AccessPromise a left (t .outcom
 -- what following step 2 promises
 abbrev pub Followed : State → Found → List ℕ → List ℕ → Type 0
 Followed σ f rows counts =
-    (rows ≡ rowsAfter (f .entry) (f .estimate) (f .place .0) (σ .rows))
-    × (counts ≡ countsAfter (f .entry) (f .estimate) (σ .counts))
+    (rows ≡ tableAfter (f .entry) (f .estimate) (f .place .0) (σ .rows))
+    × (counts ≡ tableAfter (f .entry) (f .estimate) (f .estimate) (σ .counts))
 
 -- what `stay` promises
 abbrev pub Stayed : State → Found → Answered → List ℕ → List ℕ → Type 0

@@ -5,7 +5,7 @@ ghost use mathlib.Core.Path.{_≡_};
 ghost use Prim.Native.Nat.{_<_};
 ghost use Rattle.banks.specs.Banks.{mostBanks, withNumbers};
 ghost use Rattle.geometry.specs.Entry.{empty};
-ghost use Rattle.tracking.specs.Entry.{rowsAfter, countsAfter};
+ghost use Rattle.tracking.specs.Entry.{tableAfter};
 ghost use Rattle.engine.specs.State.{stateOf, storageOf};
 ghost use Rattle.engine.specs.Steps.{moveInto, relocated};
 ghost use Rattle.settle.specs.Settling.{Movable};
@@ -88,8 +88,8 @@ fn done(ring: Ring, f: Found, slot: u32, row: u32) -> Answered
 fn stay(ring: Ring, f: Found, rows: &mut [u16], counts: &mut [u32]) -> Answered
     requires { ⌜ Followable f (now rows) (now counts) ⌝ }
     ensures answer { λ r. ⌜ r ≡ doneOf ring f empty empty ⌝ }
-    ensures rows { λ _. ⌜ now (rows .exit) ≡ rowsAfter (f .entry) (f .estimate) (f .place .0) (now (rows .entry)) ⌝ }
-    ensures counts { λ _. ⌜ now (counts .exit) ≡ countsAfter (f .entry) (f .estimate) (now (counts .entry)) ⌝ }
+    ensures rows { λ _. ⌜ now (rows .exit) ≡ tableAfter (f .entry) (f .estimate) (f .place .0) (now (rows .entry)) ⌝ }
+    ensures counts { λ _. ⌜ now (counts .exit) ≡ tableAfter (f .entry) (f .estimate) (f .estimate) (now (counts .entry)) ⌝ }
 {
     tracker::follow(f.entry, f.estimate, f.place, rows, counts);
     done(ring, f, 65535, 65535)
@@ -117,8 +117,8 @@ fn go(
         let before = storageOf (now (store .entry)) (now (forward .entry)) (now (reverse .entry)) ring in
         let after = storageOf (now (store .exit)) (now (forward .exit)) (now (reverse .exit)) (r .ring) in
         ⌜ after ≡ relocated s (row .0) (f .place .0) (moveInto (v .d .0) (v .held .0)) before ⌝ }
-    ensures rows { λ _. ⌜ now (rows .exit) ≡ rowsAfter (f .entry) (f .estimate) (f .place .0) (now (rows .entry)) ⌝ }
-    ensures counts { λ _. ⌜ now (counts .exit) ≡ countsAfter (f .entry) (f .estimate) (now (counts .entry)) ⌝ }
+    ensures rows { λ _. ⌜ now (rows .exit) ≡ tableAfter (f .entry) (f .estimate) (f .place .0) (now (rows .entry)) ⌝ }
+    ensures counts { λ _. ⌜ now (counts .exit) ≡ tableAfter (f .entry) (f .estimate) (f .estimate) (now (counts .entry)) ⌝ }
 {
     tracker::follow(f.entry, f.estimate, f.place, rows, counts);
     let d = v.d;

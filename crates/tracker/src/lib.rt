@@ -5,7 +5,7 @@ ghost use mathlib.Core.Logic.{_≢_};
 ghost use Prim.Native.Nat.{_+_, _*_, _<_, _≤_};
 ghost use lib.ListN.{length, getD, replicate};
 ghost use Rattle.geometry.specs.Entry.{empty};
-ghost use Rattle.tracking.specs.Entry.{entryIn, estimateAt, rowsAfter, countsAfter, spillAfter};
+ghost use Rattle.tracking.specs.Entry.{entryIn, estimateAt, tableAfter, spillAfter};
 use geometry::PhysicalRow;
 
 // Returns the entry that step 2 changes at a place of that bank, each bank having k entries of the tables; the end of the
@@ -57,8 +57,8 @@ pub fn spill_after(estimate: u32, spill: u32) -> u32
 pub fn follow(entry: usize, estimate: u32, place: PhysicalRow, rows: &mut [u16], counts: &mut [u32])
     requires { ⌜
         (place .0 < 65536) × (estimate ≢ 0 → entry < length (now rows)) × (estimate ≢ 0 → entry < length (now counts)) ⌝ }
-    ensures rows { λ _. ⌜ now (rows .exit) ≡ rowsAfter entry estimate (place .0) (now (rows .entry)) ⌝ }
-    ensures counts { λ _. ⌜ now (counts .exit) ≡ countsAfter entry estimate (now (counts .entry)) ⌝ }
+    ensures rows { λ _. ⌜ now (rows .exit) ≡ tableAfter entry estimate (place .0) (now (rows .entry)) ⌝ }
+    ensures counts { λ _. ⌜ now (counts .exit) ≡ tableAfter entry estimate estimate (now (counts .entry)) ⌝ }
 {
     if estimate != 0 {
         rows[entry] = place.0 as u16;

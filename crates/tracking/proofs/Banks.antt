@@ -12,7 +12,7 @@ use Rattle.banks.specs.Portions.{portion, withPortion}
 use Rattle.banks.proofs.Portions.{length-portion, getD-portion, set-portion, portion-own}
 use Rattle.scan.specs.Scan.{indexOf}
 use Rattle.tracking.specs.Track.{Tracked, track}
-use Rattle.tracking.specs.Entry.{entryOf, entryIn, estimateAt, rowsAfter, countsAfter, spillAfter}
+use Rattle.tracking.specs.Entry.{entryOf, entryIn, estimateAt, tableAfter, spillAfter}
 use Rattle.tracking.proofs.Entries.{followed, follow-entry}
 
 module _ (k c : ℕ) (rows counts : List ℕ) (rows-fit : c * k + k ≤ length rows) (counts-fit : c * k + k ≤ length counts) (p spill : ℕ) where
@@ -72,34 +72,26 @@ module _ (k c : ℕ) (rows counts : List ℕ) (rows-fit : c * k + k ≤ length r
   pub spill-in : spillAfter estimate spill ≡ t .spill
   spill-in = ap (λ (e : ℕ). spillAfter e spill) estimate-is ∙ ap (λ (u : Tracked). u .spill) told
 
-  rows-shift : (e : ℕ) → (e ≢ 0 → i < k) → rowsAfter (c * k + i) e p rows ≡ withPortion k c rows (rowsAfter i e p (portion k c rows))
-  unfolding rowsAfter
-  rows-shift e inside =
-      elim (split (eqb e 0)) [
-        | inl z ↦ rw z (sym (portion-own k c rows rows-fit))
-        | inr n ↦ rw n (sym (set-portion k c rows rows-fit i p (inside (eqb-false e 0 n))))
+  -- a table's entry of the bank gets x
+  shift : (table : List ℕ) → c * k + k ≤ length table → (x : ℕ)
+      → tableAfter entry estimate x table ≡ withPortion k c table (tableAfter i estimate x (portion k c table))
+  unfolding entryIn tableAfter
+  shift table fits x =
+      elim (split (eqb estimate 0)) [
+        | inl z ↦ rw z (sym (portion-own k c table fits))
+        | inr n ↦ rw n (sym (set-portion k c table fits i x (inside-bank (eqb-false estimate 0 n))))
       ]
 
-  counts-shift : (e : ℕ) → (e ≢ 0 → i < k) → countsAfter (c * k + i) e counts ≡ withPortion k c counts (countsAfter i e (portion k c counts))
-  unfolding countsAfter
-  counts-shift e inside =
-      elim (split (eqb e 0)) [
-        | inl z ↦ rw z (sym (portion-own k c counts counts-fit))
-        | inr n ↦ rw n (sym (set-portion k c counts counts-fit i e (inside (eqb-false e 0 n))))
-      ]
-
-  pub rows-in : rowsAfter entry estimate p rows ≡ withPortion k c rows (t .rows)
-  unfolding entryIn
+  pub rows-in : tableAfter entry estimate p rows ≡ withPortion k c rows (t .rows)
   rows-in =
-      rows-shift estimate inside-bank
-      ∙ ap (λ (e : ℕ). withPortion k c rows (rowsAfter i e p (portion k c rows))) estimate-is
+      shift rows rows-fit p
+      ∙ ap (λ (e : ℕ). withPortion k c rows (tableAfter i e p (portion k c rows))) estimate-is
       ∙ ap (λ (u : Tracked). withPortion k c rows (u .rows)) told
 
-  pub counts-in : countsAfter entry estimate counts ≡ withPortion k c counts (t .counts)
-  unfolding entryIn
+  pub counts-in : tableAfter entry estimate estimate counts ≡ withPortion k c counts (t .counts)
   counts-in =
-      counts-shift estimate inside-bank
-      ∙ ap (λ (e : ℕ). withPortion k c counts (countsAfter i e (portion k c counts))) estimate-is
+      shift counts counts-fit estimate
+      ∙ ap (λ (e : ℕ). withPortion k c counts (tableAfter i e e (portion k c counts))) estimate-is
       ∙ ap (λ (u : Tracked). withPortion k c counts (u .counts)) told
 
   -- ---- told by what the two searches of the bank's entries answer

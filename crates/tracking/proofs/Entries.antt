@@ -12,30 +12,26 @@ use Rattle.geometry.proofs.Cases.{split, lt?}
 use Rattle.scan.specs.Scan.{indexOf}
 use Rattle.scan.proofs.Scans.{index-found}
 use Rattle.tracking.specs.Track.{Tracked, track}
-use Rattle.tracking.specs.Entry.{entryOf, estimateAt, rowsAfter, countsAfter, spillAfter}
+use Rattle.tracking.specs.Entry.{entryOf, estimateAt, tableAfter, spillAfter}
 
 -- what step 2 leaves, told by its entry and its estimate
 abbrev pub followed : ℕ → ℕ → ℕ → List ℕ → List ℕ → ℕ → Tracked
 followed i estimate p rows counts spill =
     record {
-      rows = rowsAfter i estimate p rows;
-      counts = countsAfter i estimate counts;
+      rows = tableAfter i estimate p rows;
+      counts = tableAfter i estimate estimate counts;
       spill = spillAfter estimate spill;
       estimate = estimate;
     }
 
-rows-after-long : (i estimate p : ℕ) (rows : List ℕ) → length (rowsAfter i estimate p rows) ≡ length rows
-unfolding rowsAfter
-rows-after-long i estimate p rows = elim (split (eqb estimate 0)) [ inl e ↦ rw e | inr e ↦ rw e (length-set rows i _) ]
-
-counts-after-long : (i estimate : ℕ) (counts : List ℕ) → length (countsAfter i estimate counts) ≡ length counts
-unfolding countsAfter
-counts-after-long i estimate counts = elim (split (eqb estimate 0)) [ inl e ↦ rw e | inr e ↦ rw e (length-set counts i _) ]
+table-after-long : (i estimate x : ℕ) (table : List ℕ) → length (tableAfter i estimate x table) ≡ length table
+unfolding tableAfter
+table-after-long i estimate x table = elim (split (eqb estimate 0)) [ inl e ↦ rw e | inr e ↦ rw e (length-set table i _) ]
 
 module _ (p : ℕ) (rows counts : List ℕ) (spill : ℕ) (long : length rows ≡ length counts) where
   pub follow-entry : followed (entryOf p rows counts spill) (estimateAt (entryOf p rows counts spill) (length counts) counts) p rows counts spill
       ≡ track p rows counts spill
-  unfolding entryOf estimateAt rowsAfter countsAfter spillAfter track
+  unfolding entryOf estimateAt tableAfter spillAfter track
   follow-entry =
       let i : ℕ = indexOf p rows in
       let j : ℕ = indexOf spill counts in
@@ -51,4 +47,4 @@ module _ (p : ℕ) (rows counts : List ℕ) (spill : ℕ) (long : length rows �
       ]
 
   pub track-long : (length ((track p rows counts spill) .rows) ≡ length rows) × (length ((track p rows counts spill) .counts) ≡ length counts)
-  track-long = rw (← follow-entry) (rows-after-long _ _ p rows, counts-after-long _ _ counts)
+  track-long = rw (← follow-entry) (table-after-long _ _ _ rows, table-after-long _ _ _ counts)

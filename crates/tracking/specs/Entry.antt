@@ -21,12 +21,10 @@ entryIn k c p rows counts spill = c * k + entryOf p (portion k c rows) (portion 
 unfoldable pub estimateAt : ℕ → ℕ → List ℕ → ℕ
 estimateAt i end counts = cond (ltb i end) (suc (getD counts i 0)) 0
 
--- what following leaves: the tables, and `spill`
-unfoldable pub rowsAfter : ℕ → ℕ → ℕ → List ℕ → List ℕ
-rowsAfter i estimate p rows = cond (eqb estimate 0) rows (set rows i p)
-
-unfoldable pub countsAfter : ℕ → ℕ → List ℕ → List ℕ
-countsAfter i estimate counts = cond (eqb estimate 0) counts (set counts i estimate)
+-- what following leaves: either table, whose entry gets x where there is an estimate, the place as its name and the estimate as its
+-- count; and `spill`
+unfoldable pub tableAfter : ℕ → ℕ → ℕ → List ℕ → List ℕ
+tableAfter i estimate x table = cond (eqb estimate 0) table (set table i x)
 
 unfoldable pub spillAfter : ℕ → ℕ → ℕ
 spillAfter estimate spill = cond (eqb estimate 0) (suc spill) spill

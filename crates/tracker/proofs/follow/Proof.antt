@@ -1,7 +1,7 @@
 -- `follow`: the entry names the place, with the estimate for its count, where there is one. Assumes nothing.
 use native.Mathlib.Omega.{arith}
 use borrow.Author.Tests.{ne-eqb, eq-eqb}
-use Rattle.tracking.specs.Entry.{rowsAfter, countsAfter}
+use Rattle.tracking.specs.Entry.{tableAfter}
 use borrow.Author.Needs.{needs}
 use Rattle.tracker.proofs.follow.Statement.{statement}
 use Rattle.tracker.proofs.follow.Tie as tie
@@ -28,11 +28,11 @@ same-length-2 : tie.Need-same-length-2
 same-length-2 c = search needs
 
 returns : tie.Need-returns
-unfolding rowsAfter countsAfter
+unfolding tableAfter
 returns c = let none = ne-eqb (c .before .before .args .estimate) 0 (c .before .if1 .taken) in (rw none, rw none)
 
 returns-2 : tie.Need-returns-2
-unfolding rowsAfter countsAfter
+unfolding tableAfter
 returns-2 c = let none = eq-eqb (c .before .args .estimate) 0 (c .if1 .left) in (rw none, rw none)
 
 pub follow-spec : {M : Type 1} → statement M
