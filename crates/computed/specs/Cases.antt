@@ -316,6 +316,22 @@ inBank1 name count spill acts rest =
       acts = byBank acts rest;
     }
 
+-- three banks of two entries each; row 0 stands in slot 0, physical row 5, in bank 2, no entry names a row, and the record's places
+-- for other banks hold the largest number (acts: of the three)
+abbrev pub inBank2 : List ℕ → Lent
+inBank2 acts =
+    record {
+      settings = withBanks 3 (settingsOf 5 4 1 2 2 5);
+      forward = 0 ∷ 65535 ∷ 65535 ∷ 65535 ∷ 65535 ∷ [];
+      reverse = 0 ∷ 65535 ∷ 65535 ∷ 65535 ∷ [];
+      rows = replicate 6 65535;
+      counts = replicate 6 0;
+      head = 1;
+      passed = 1;
+      spill = byBank (0 ∷ 0 ∷ 0 ∷ []) 4294967295;
+      acts = byBank acts 4294967295;
+    }
+
 -- document 02, Ask 5, on one access
 abbrev pub inBanks : List Case
 inBanks =
@@ -337,6 +353,10 @@ inBanks =
     ∷ reads (inBank1 65535 0 (1 ∷ 0 ∷ []) (0 ∷ 1 ∷ []) 0) 0 (4 ∷ 65535 ∷ 65535 ∷ 2 ∷ 2 ∷ [])
     -- 'the record's places for banks from B on are .. not looked at'
     ∷ reads (inBank1 65535 0 (0 ∷ 0 ∷ []) (0 ∷ 0 ∷ []) 4294967295) 0 (0 ∷ 65535 ∷ 65535 ∷ 2 ∷ 2 ∷ [])
+    -- with three banks: the slot's bank is full, the two others are, and the slot's bank has more accesses than L
+    ∷ reads (inBank2 (0 ∷ 0 ∷ 5 ∷ [])) 0 (8 ∷ 65535 ∷ 65535 ∷ 1 ∷ 1 ∷ [])
+    ∷ reads (inBank2 (5 ∷ 5 ∷ 0 ∷ [])) 0 (0 ∷ 65535 ∷ 65535 ∷ 1 ∷ 1 ∷ [])
+    ∷ reads (inBank2 (0 ∷ 0 ∷ 6 ∷ [])) 0 (4 ∷ 65535 ∷ 65535 ∷ 1 ∷ 1 ∷ [])
     -- 'A new setting B, 1 to 16'; 'the check behind 2 .. per bank': B does not raise what L may be
     ∷ settings (withBanks 16 (settingsOf 4 2 1 2 2 5)) 0
     ∷ settings (withBanks 17 (settingsOf 4 2 1 2 2 5)) 1

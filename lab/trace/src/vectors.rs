@@ -14,6 +14,10 @@ pub struct Vector {
 const SESSION: (&str, &str) =
     (include_str!("../../../examples/session.trace"), include_str!("../../../examples/session.lines"));
 
+/// The repository's example with two banks, derived by hand.
+const BANKS: (&str, &str) =
+    (include_str!("../../../examples/banks.trace"), include_str!("../../../examples/banks.lines"));
+
 /// Steps and settings, worked out line by line.
 const DERIVED: [(&str, &str); 21] = [
     // Document 01's edges of the settings; 1 comes before 2.
@@ -145,7 +149,7 @@ pub fn all() -> Vec<Vector> {
     let pair =
         |&(file, printed): &(&str, &str)| Vector { file: file.as_bytes().to_vec(), printed: printed.to_string() };
     let derived = DERIVED.iter().chain(&bank_vectors::DERIVED);
-    let mut all: Vec<Vector> = std::iter::once(&SESSION).chain(derived).map(pair).collect();
+    let mut all: Vec<Vector> = [&SESSION, &BANKS].into_iter().chain(derived).map(pair).collect();
     let no_trace = NO_TRACE.iter().chain(&bank_vectors::NO_TRACE);
     all.extend(no_trace.map(|file| Vector { file: file.as_bytes().to_vec(), printed: REFUSED.to_string() }));
     all.extend(EMPTY.map(|file| Vector { file: file.as_bytes().to_vec(), printed: String::new() }));
