@@ -13,6 +13,7 @@ use Rattle.history.specs.Tally.{Tally}
 use Rattle.engine.proofs.Window.{goneBy}
 use Rattle.engine.proofs.Ahead.{ahead}
 use Rattle.history.proofs.Openings.{Home, Slot}
+use Rattle.history.proofs.Charge.{charge}
 use Rattle.engine.proofs.Pointers.{Sound}
 use Rattle.engine.proofs.Trackers.{CountingAt, estimate}
 
@@ -32,7 +33,7 @@ HomeKept S σ τ₀ τ x =
 
 abbrev pub SlotKept : Settings → State → Tally → Tally → ℕ → Type 0
 SlotKept S σ τ₀ τ s =
-    Slot (S .a) (τ .openings (S .n + s)) (τ₀ .openings (S .n + s)) (estimate S σ (S .n + s))
+    Slot (S .a) (τ .openings (S .n + s)) (charge S τ₀ s) (estimate S σ (S .n + s))
     (gone S σ s) (eqb (reverseOf σ s) empty)
 
 pub record Inv (S : Settings) (σ : State) (τ₀ τ : Tally) : Type 0 where

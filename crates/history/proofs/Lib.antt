@@ -1,6 +1,7 @@
 pub mod Groups
 pub mod Openings
 pub mod Tallied
+pub mod Charge
 pub mod Invariant
 pub mod Rows
 pub mod Access
@@ -8,6 +9,7 @@ pub mod Bytes
 pub mod Calls
 pub mod Chain
 pub mod History
+pub mod Window
 pub mod Estimates
 pub mod Spent
 pub mod AfterTick

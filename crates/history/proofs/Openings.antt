@@ -1,14 +1,16 @@
 -- What is known of one row's openings in the running epoch, and how one event carries it on.
--- o: openings so far; z: openings when the epoch began; e: the tracker's estimate of the place.
+-- o: openings so far; z: openings when the epoch began, of a slot its charge then (`Charge`); e: the tracker's estimate of the
+-- place.
 -- Assumes nothing.
 use Prim.Native.Nat.{ℕ, suc, _+_, _*_, _<_, _≤_}
 use native.Mathlib.Omega.{arith}
 use mathlib.Core.Path.{_≡_, refl, sym, _∙_}
 use mathlib.Core.Logic.{_⊎_, inl, inr, _≢_}
-use mathlib.Core.Bool.{Bool, true, false, true≢false, false≢true}
+use mathlib.Core.Bool.{Bool, true, false, not, true≢false, false≢true}
 use lib.Dec.{leb}
 use borrow.Author.Tests.{ne-eqb, eq-eqb, le-leb, lt-leb}
 use Rattle.geometry.proofs.Cases.{lt?}
+use Rattle.tracking.proofs.Tracking.{one-if}
 use Rattle.tracking.proofs.View.{Grew}
 use Rattle.history.specs.Tally.{hit}
 
@@ -20,10 +22,10 @@ pub data Home (a o z e : ℕ) : Bool → Bool → Type 0 where
 
 -- a slot; first Bool: it is gone by, second: it is empty
 pub data Slot (a o z e : ℕ) : Bool → Bool → Type 0 where
-  full : o ≤ z + e → e < a → Slot a o z e false false
-  free : o ≤ z + e + 1 → e ≤ a → Slot a o z e false true
-  refilled : o ≤ z + e + 2 → e < a → Slot a o z e true false
-  spent : o ≤ z + (a + 3) → Slot a o z e true true
+  full : o < z + e → e < a → Slot a o z e false false
+  free : o ≤ z + e → e ≤ a → Slot a o z e false true
+  refilled : o ≤ z + e + 1 → e < a → Slot a o z e true false
+  spent : o ≤ z + (a + 2) → Slot a o z e true true
 
 pub hit-same : (p x : ℕ) → x ≡ p → hit p x ≡ 1
 unfolding hit
@@ -91,15 +93,16 @@ module _ {a : ℕ} where
 
   -- ---- a slot
 
-  pub slot-bound : {gone f : Bool} {o z e : ℕ} → Slot a o z e gone f → o ≤ z + (a + 3)
+  -- a row that it holds still counts as one more
+  pub slot-bound : {gone f : Bool} {o z e : ℕ} → Slot a o z e gone f → o + one-if (not f) ≤ z + (a + 2)
   slot-bound (full h k) = omega arith
   slot-bound (free h k) = omega arith
   slot-bound (refilled h k) = omega arith
-  slot-bound (spent h) = h
+  slot-bound (spent h) = omega arith
 
-  pub slot-new : (f : Bool) (z : ℕ) → 0 < a → Slot a z z 0 false f
-  slot-new true z pos = free (omega arith) (omega arith)
-  slot-new false z pos = full (omega arith) pos
+  pub slot-new : (f : Bool) (o : ℕ) → 0 < a → Slot a o (o + one-if (not f)) 0 false f
+  slot-new true o pos = free (omega arith) (omega arith)
+  slot-new false o pos = full (omega arith) pos
 
   -- not opened
   pub slot-rests : {gone f : Bool} {o z e o′ e′ : ℕ} → Slot a o z e gone f → o′ ≡ o → Grew a e e′ → Slot a o′ z e′ gone f

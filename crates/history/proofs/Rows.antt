@@ -20,6 +20,7 @@ use Rattle.engine.proofs.Moves.{not-own}
 use Rattle.history.proofs.Tallied.{Tallied, hit-home, hit-slot, hit-here, hit-away, hit-own}
 use Rattle.engine.proofs.Trackers.{estimate}
 use Rattle.engine.proofs.Counting.{Estimated}
+use Rattle.history.proofs.Charge.{charge}
 use Rattle.history.proofs.Invariant.{Inv, gone, wornSlot, HomeKept, SlotKept}
 
 module _ (S : Settings) (σ : State) (τ₀ τ : Tally) (I : Inv S σ τ₀ τ) (r : ℕ) (row-in : r < S .n) (σ′ : State) (E : Estimated S σ σ′ (place S σ r)) where
@@ -73,7 +74,7 @@ module _ (S : Settings) (σ : State) (τ₀ τ : Tally) (I : Inv S σ τ₀ τ) 
         ]
 
     pub slot-stays : (s : ℕ) → s < S .q
-        → Slot (S .a) ((afterStay S τ r) .openings (S .n + s)) (τ₀ .openings (S .n + s)) (estimate S σ′ (S .n + s))
+        → Slot (S .a) ((afterStay S τ r) .openings (S .n + s)) (charge S τ₀ s) (estimate S σ′ (S .n + s))
         (gone S σ s) (eqb (reverseOf σ s) empty)
     slot-stays s b =
         elim (eq? s (forwardOf σ r)) [

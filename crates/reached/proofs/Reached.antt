@@ -2,7 +2,7 @@
 use mathlib.Core.Path.{refl}
 use Rattle.history.specs.Tally.{hit}
 use Rattle.computed.proofs.Traced.{traced}
-use Rattle.reached.specs.Reached.{HomeReached, SlotReached, NineReached, QuarantinesReached, NineReachedInBanks, QuarantinesReachedInBanks, AllTaken}
+use Rattle.reached.specs.Reached.{HomeReached, SlotReached, WindowHomeReached, WindowSlotReached, NineReached, QuarantinesReached, NineReachedInBanks, QuarantinesReachedInBanks, AllTaken}
 
 pub home-reached : HomeReached
 unfolding traced hit
@@ -11,6 +11,14 @@ home-reached = refl
 pub slot-reached : SlotReached
 unfolding traced hit
 slot-reached = refl
+
+pub window-home-reached : WindowHomeReached
+unfolding traced hit
+window-home-reached = refl
+
+pub window-slot-reached : WindowSlotReached
+unfolding traced hit
+window-slot-reached = refl
 
 pub nine-reached : NineReached
 unfolding traced

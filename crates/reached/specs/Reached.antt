@@ -1,18 +1,20 @@
--- No figure of demand 3 can be lowered: the lists reach it, for A = 1, 2 and 3 and each B up to 16. The proofs are computations.
+-- No figure of demand 3, or of a stretch over one tick, can be lowered: the lists reach it, for A = 1, 2 and 3 and each B up to 16.
+-- The proofs are computations.
 -- Assumes nothing.
 use Prim.Native.Nat.{ℕ, suc, _+_, _-_, _*_, _/_}
 use mathlib.Core.Path.{_≡_}
 use mathlib.Core.List.{List, [], _∷_, _++_, map}
-use lib.ListN.{replicate}
+use lib.ListN.{length, replicate, take, drop}
 use Rattle.geometry.specs.declared.Settings.{Settings}
 use Rattle.geometry.specs.Numbering.{homeRow, slotRow}
 use Rattle.banks.specs.Banks.{mostBanks}
 use Rattle.engine.specs.Calls.{setUp}
 use Rattle.history.specs.Run.{Event, reportOf}
-use Rattle.history.specs.Tally.{start, Stretch, openingsIn, quarantinesIn, epochs}
+use Rattle.history.specs.Tally.{start, Report, Stretch, openingsIn, quarantinesIn, epochs}
+use Rattle.history.specs.Window.{ticksIn, stretchOf}
 use Rattle.trace_steps.specs.Steps.{stepsFrom}
 use Rattle.replay.specs.Memory.{lent}
-use Rattle.reached.specs.Lists.{upFrom, twoSlots, homeSteps, slotSteps, shortSettings, shortSteps, shortBanks, shortBankSteps}
+use Rattle.reached.specs.Lists.{upFrom, twoSlots, homeSteps, slotSteps, threeSlots, windowHomeBefore, windowHomeSteps, windowSlotBefore, windowSlotSteps, shortSettings, shortSteps, shortBanks, shortBankSteps}
 
 -- the values of A
 abbrev pub thresholds : List ℕ
@@ -44,6 +46,26 @@ SlotReached =
     byBanks 1 (λ b a. map (λ e. openingsIn e (slotRow (twoSlots b a) 0)) (epochsOf (twoSlots b a) (slotSteps a)))
     ≡ byBanks 1 (λ b a. 1 ∷ (a + 3) ∷ [])
 
+-- The ticks in the stretch that some steps make after others, and the openings of physical row p in it.
+abbrev pub windowOf : Settings → List ℕ → List ℕ → ℕ → List ℕ
+windowOf S before during p =
+    let told : List Report = map reportOf (answers S (before ++ during)) in
+    let first : List Report = take (length before) told in
+    let rest : List Report = drop (length before) told in
+    ticksIn rest ∷ openingsIn (stretchOf S first rest) p ∷ []
+
+-- over one tick: of row 0's home
+abbrev pub WindowHomeReached : Type 0
+WindowHomeReached =
+    byBanks 1 (λ b a. windowOf (threeSlots b a) (windowHomeBefore a) (windowHomeSteps a) (homeRow 0))
+    ≡ byBanks 1 (λ b a. 1 ∷ (2 * a + 4) ∷ [])
+
+-- .. and of slot 0
+abbrev pub WindowSlotReached : Type 0
+WindowSlotReached =
+    byBanks 1 (λ b a. windowOf (twoSlots b a) (windowSlotBefore a) (windowSlotSteps a) (slotRow (twoSlots b a) 0))
+    ≡ byBanks 1 (λ b a. 1 ∷ (2 * a + 5) ∷ [])
+
 -- one bank: of the 5A + 2 steps the last alone is refused
 abbrev pub NineReached : Type 0
 NineReached =
@@ -73,6 +95,7 @@ abbrev pub AllTaken : Type 0
 AllTaken =
     let number : Settings → ℕ = λ S. (setUp S (lent S)) .number in
     byBanks 1 (λ b a. number (twoSlots b a))
+    ++ byBanks 1 (λ b a. number (threeSlots b a))
     ++ map (λ a. number (shortSettings a)) thresholds
     ∷ byBanks 2 (λ b a. number (shortBanks b a))
-    ≡ byBanks 1 (λ b a. 0) ++ map (λ a. 0) thresholds ∷ byBanks 2 (λ b a. 0)
+    ≡ byBanks 1 (λ b a. 0) ++ byBanks 1 (λ b a. 0) ++ map (λ a. 0) thresholds ∷ byBanks 2 (λ b a. 0)

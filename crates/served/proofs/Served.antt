@@ -22,6 +22,7 @@ use Rattle.figures.proofs.Spans.{span-part}
 use Rattle.history.specs.Run as run
 use Rattle.history.specs.Demand2.{standing}
 use Rattle.history.specs.Demand3.{Kept}
+use Rattle.history.specs.Window.{EachWindow}
 use Rattle.history.specs.Tally as tally
 use Rattle.history.specs.Run.{OfAccepted, Each, OneOf}
 use Rattle.history.specs.Estimates.{unobserved, observed, Concludes}
@@ -30,13 +31,14 @@ use Rattle.history.proofs.Invariant.{Inv}
 use Rattle.history.proofs.Groups.{ladder, step-number}
 use Rattle.history.proofs.Chain.{Chain, end, call, idle, Idle, misfit as lent-misfit, looks}
 use Rattle.history.proofs.History.{inv-set-up, inv-chain, kept, usual-number}
+use Rattle.history.proofs.Window.{each-window}
 use Rattle.history.proofs.Estimates.{concludes}
 use Rattle.history.proofs.Spent.{spent-late}
 use Rattle.history.proofs.Memory.{returned}
 use Rattle.history.specs.Demand1.{allowed, bufferOf}
 use Rattle.history.proofs.Refusals.{demand-1}
 use Rattle.served.specs.Transcript.{Exchange, read, write, tick, inspectNumber, inspectSpan, Promised, Logged, whole, misfit, Meets, Transcript, answerOf, seen, seenOf}
-use Rattle.served.specs.Claims.{Proper, Demand1Served, Demand3Served, Answers3, NumberOccurs, Preserved, Demand2Served, EstimatesServed, NotSpentEarlyServed, BeginningsServed}
+use Rattle.served.specs.Claims.{Proper, Demand1Served, Demand3Served, WindowServed, Answers3, NumberOccurs, Preserved, Demand2Served, EstimatesServed, NotSpentEarlyServed, BeginningsServed}
 
 -- ---- one exchange
 
@@ -226,6 +228,9 @@ module _ (S : Settings) (blank σ σ′ : State) (es : List Logged) (begun : Set
   kept-served : Kept S (map seenOf es)
   kept-served = kept S blank zero whole-chain
 
+  windows : EachWindow S (map seenOf es)
+  windows = each-window S blank zero whole-chain
+
   preserved : Preserved S (standing S blank) es σ′
   preserved =
       let bytes = returned S blank zero whole-chain in
@@ -251,6 +256,9 @@ module _ (S : Settings) (blank σ σ′ : State) (es : List Logged) (begun : Set
 
 pub demand-3-served : Demand3Served
 demand-3-served S blank σ σ′ es begun t = kept-served S blank σ σ′ es begun t
+
+pub window-served : WindowServed
+window-served S blank σ σ′ es begun t = windows S blank σ σ′ es begun t
 
 pub demand-2-served : Demand2Served
 demand-2-served S blank σ σ′ es begun t = preserved S blank σ σ′ es begun t

@@ -1,5 +1,6 @@
--- Demands 1, 2 and 3 of the C functions, what their estimates tell, and how far an epoch is when one answers 9. The proofs are
--- `demand-1-served` to `demand-3-served`, `estimates-served` and `not-spent-early-served` of proofs/Served.antt.
+-- Demands 1, 2 and 3 of the C functions, the figures of a stretch over one tick, what their estimates tell, and how far an epoch
+-- is when one answers 9. The proofs are `demand-1-served` to `demand-3-served`, `window-served`, `estimates-served` and
+-- `not-spent-early-served` of proofs/Served.antt.
 -- Assumes nothing.
 use Prim.Native.Nat.{ℕ, _<_}
 use mathlib.Core.Path.{_≡_}
@@ -15,6 +16,7 @@ use Rattle.history.specs.Run.{figureless, OfAccepted, Each, OneOf}
 use Rattle.history.specs.Demand1.{allowed, bufferOf}
 use Rattle.history.specs.Demand2.{Memory, standing, remembered, IsRow, RowsReturned}
 use Rattle.history.specs.Demand3.{Kept}
+use Rattle.history.specs.Window.{EachWindow}
 use Rattle.history.specs.Estimates.{unobserved, observed, Concludes}
 use Rattle.history.specs.Spent.{begun, progressed, Spent}
 use Rattle.served.specs.Transcript.{Exchange, read, write, tick, inspectNumber, inspectSpan}
@@ -37,6 +39,12 @@ Demand1Served = (S : Settings) (before after : State) (x : Exchange) → Promise
 abbrev pub Demand3Served : Type 0
 Demand3Served = (S : Settings) (blank σ σ′ : State) (es : List Logged) → SetUpPromise S blank σ 0 → Transcript S σ es σ′
     → Kept S (map seenOf es)
+
+-- Document 02, Ask 6. For all settings and all lent memory: if `aqua_set_up` answered 0, then every stretch with at most one tick,
+-- cut anywhere from what the caller sees of a transcript from there, is as `Windowed` of crate `history` says.
+abbrev pub WindowServed : Type 0
+WindowServed = (S : Settings) (blank σ σ′ : State) (es : List Logged) → SetUpPromise S blank σ 0 → Transcript S σ es σ′
+    → EachWindow S (map seenOf es)
 
 -- a call that was lent another length is answered 3, or a span of no bytes
 abbrev pub Answers3 : Exchange → Type 0

@@ -1,4 +1,5 @@
-//! Hammering streams judged by the outside tally: the bounds of demand 3 hold in every epoch, and are attained.
+//! Hammering streams judged by the outside tally: the bounds of demand 3 hold in every epoch, those of document 02's Ask 6
+//! over every tick, and all are attained.
 
 use crate::pair::{Counts, Pair};
 use crate::sound::{banks, Watcher};
@@ -28,10 +29,7 @@ impl<'a> Stream<'a> {
 
     /// Takes the epoch's figures so far into the maxima and judges them.
     fn note(&mut self, f: Figures) -> Result<(), String> {
-        self.most.home = self.most.home.max(f.home);
-        self.most.slot = self.most.slot.max(f.slot);
-        self.most.quarantines = self.most.quarantines.max(f.quarantines);
-        self.most.spent = self.most.spent.max(f.spent);
+        self.most.raise(&f);
         tally::judge(&self.s, &f)
     }
 
@@ -132,26 +130,37 @@ fn one_slot_short(a: u32, b: u32, counts: &mut Counts) -> Result<bool, String> {
     Ok(*last == 9 && accepted && roomy.figures.quarantines == s.figure())
 }
 
-/// Streams that attain the figures: A + 2 at row 0's home, in its second epoch; A + 3 at slot 0, in its second epoch; and
-/// a 9 with one slot less than suffices. The first two ask for two entries at most in a bank, and for at most 2 A
-/// accesses of a bank; so they do so with any number of banks.
+/// Streams that attain the figures: A + 2 at row 0's home, in its second epoch; A + 3 at slot 0, in its second epoch; 2 A + 4
+/// and 2 A + 5 at the same rows in the second epoch and the third together; and a 9 with one slot less than suffices. The
+/// first four ask for as many entries in a bank, and for as many times A accesses of it, as there are slots; so they attain
+/// them with any number of banks.
 pub fn attained(a: u32, b: u32, counts: &mut Counts) -> Result<(), String> {
     let burst = |row: u32| vec![row; a as usize];
-    let tick = vec![TICK];
-    let s = settings([3, 2, 2, a, 2 * a, b]);
+    let tick = || vec![TICK];
+    let (two, three) = (settings([3, 2, 2, a, 2 * a, b]), settings([4, 3, 3, a, 3 * a, b]));
     // Row 2 sends row 0 home, which is opened for that, then hammered, then left.
-    let steps = [burst(0), burst(1), tick.clone(), burst(2), burst(0)];
-    let home = run(s, &steps, counts)?;
+    let steps = [burst(0), burst(1), tick(), burst(2), burst(0)];
+    let home = run(two, &steps, counts)?;
     // Slot 0 is opened by row 0 once less than A times, twice when row 2 takes its place, and twice when that row leaves.
-    let almost = vec![0; a as usize - 1];
-    let steps = [burst(0), burst(1), tick, almost, burst(2), vec![2]];
-    let slot = run(s, &steps, counts)?;
-    let figures = (home.figures.home, slot.figures.slot);
-    if [home.numbers, slot.numbers].iter().flatten().any(|&number| number != 0) {
+    let almost = || vec![0; a as usize - 1];
+    let steps = [burst(0), burst(1), tick(), almost(), burst(2), vec![2]];
+    let slot = run(two, &steps, counts)?;
+    // With a slot and a row more row 3 sends row 0 home, and row 0 row 1, which sends row 2 home; so after the tick row 2
+    // sends row 3 home, and that row 0 again.
+    let first = [burst(0), burst(1), burst(2), tick()];
+    let steps = [&first[..], &[burst(3), burst(0), burst(1), tick(), burst(2), burst(3), burst(0)]].concat();
+    let home_twice = run(three, &steps, counts)?;
+    // After the tick row 0 takes slot 0, which is empty then, is hammered there, and leaves it.
+    let steps = [burst(0), burst(1), tick(), almost(), burst(2), vec![2], tick(), burst(0), burst(0)];
+    let slot_twice = run(two, &steps, counts)?;
+    let figures =
+        [home.figures.home, slot.figures.slot, home_twice.figures.home_over_tick, slot_twice.figures.slot_over_tick];
+    if [home, slot, home_twice, slot_twice].iter().flat_map(|ran| &ran.numbers).any(|&number| number != 0) {
         return Err(format!("a step of an attaining stream was refused, for A = {a} and B = {b}"));
     }
     let short = one_slot_short(a, b, counts)?;
-    if !short || figures != (u64::from(a) + 2, u64::from(a) + 3) {
+    let due = [a + 2, a + 3, 2 * a + 4, 2 * a + 5].map(u64::from);
+    if !short || figures != due {
         return Err(format!("the attaining streams miss the figures for A = {a}, B = {b}: {figures:?}, a 9: {short}"));
     }
     Ok(())
@@ -212,14 +221,13 @@ pub fn hammer(rng: &mut Rng, a: u32, calls: u64, counts: &mut Counts) -> Result<
         }
         stream.end()?;
         streams += 1;
-        most.home = most.home.max(stream.most.home);
-        most.slot = most.slot.max(stream.most.slot);
+        most.raise(&stream.most);
     }
     println!(
-        "  A {a:>5}: {streams:>5} streams, {epochs:>6} epochs; home {} of {}, slot {} of {}; quarantines at most B (L / A) \
-         (equal in {} epochs of one bank and {} of more); no 9 in {roomy_epochs} epochs with Q >= 2 B (L / A), \
-         {tight_spent} with less",
-        most.home, a + 2, most.slot, a + 3, full[0], full[1],
+        "  A {a:>5}: {streams:>5} streams, {epochs:>6} epochs; home {} of {}, slot {} of {}; over one tick {} of {} and {} of \
+         {}; quarantines at most B (L / A) (equal in {} epochs of one bank and {} of more); no 9 in {roomy_epochs} epochs \
+         with Q >= 2 B (L / A), {tight_spent} with less",
+        most.home, a + 2, most.slot, a + 3, most.home_over_tick, 2 * a + 4, most.slot_over_tick, 2 * a + 5, full[0], full[1],
     );
     if full.contains(&0) {
         return Err(format!("no epoch had as many quarantines as there can be, for A = {a}: {full:?}"));

@@ -66,7 +66,7 @@ fn garbage_memory(rng: &mut Rng, counts: &mut Counts) -> Result<(), String> {
 }
 
 fn hammering(rng: &mut Rng, counts: &mut Counts) -> Result<(), String> {
-    println!("d. hammering streams, most openings in one epoch by the outside tally:");
+    println!("d. hammering streams, most openings in one epoch and over one tick by the outside tally:");
     hammer::printed_trace(counts)?;
     for a in [1, 2, 3, 4, 7, 20, 100] {
         hammer::hammer(rng, a, HAMMER_CALLS, counts)?;
@@ -78,8 +78,8 @@ fn hammering(rng: &mut Rng, counts: &mut Counts) -> Result<(), String> {
         [1, 2, 3].into_iter().try_for_each(|b| hammer::attained(a, b, counts))?;
     }
     println!(
-        "   streams attain A + 2 at a home, A + 3 at a slot, B (L / A) quarantines and a 9 with Q = 2 B (L / A) - 1, for A \
-         up to 250 with every B, for A = 1,000 and 65,535 with B = 1, 2 and 3"
+        "   streams attain A + 2 at a home, A + 3 at a slot, over one tick 2 A + 4 and 2 A + 5, B (L / A) quarantines and a 9 \
+         with Q = 2 B (L / A) - 1, for A up to 250 with every B, for A = 1,000 and 65,535 with B = 1, 2 and 3"
     );
     Ok(())
 }

@@ -2,17 +2,35 @@
 //! and the row sent home. It sees no table, no tracker and no control record.
 
 use model::memory::{Answer, Call, Settings, NONE};
+use std::ops::Range;
 
-/// What one epoch added.
+/// What one epoch added, and what it and the one before it added together. A stretch of calls with at most one tick in it
+/// lies within two such epochs, and openings are only ever added; so a stretch has no more than these two.
 #[derive(Clone, Copy, PartialEq, Eq, Debug, Default)]
 pub struct Figures {
     /// Most openings of one home.
     pub home: u64,
     /// Most openings of one slot.
     pub slot: u64,
+    /// Most openings of one home in this epoch and the one before.
+    pub home_over_tick: u64,
+    /// Most openings of one slot in this epoch and the one before.
+    pub slot_over_tick: u64,
     pub quarantines: u64,
     /// Accesses refused for want of a slot.
     pub spent: u64,
+}
+
+impl Figures {
+    /// Takes from other figures what is greater there.
+    pub fn raise(&mut self, other: &Figures) {
+        self.home = self.home.max(other.home);
+        self.slot = self.slot.max(other.slot);
+        self.home_over_tick = self.home_over_tick.max(other.home_over_tick);
+        self.slot_over_tick = self.slot_over_tick.max(other.slot_over_tick);
+        self.quarantines = self.quarantines.max(other.quarantines);
+        self.spent = self.spent.max(other.spent);
+    }
 }
 
 pub struct Tally {
@@ -23,6 +41,8 @@ pub struct Tally {
     spent: u64,
     /// Accepted accesses of the epoch so far.
     accesses: u64,
+    /// Cumulative openings as they stood when the epoch before this one began.
+    openings_before: Vec<u64>,
     /// Cumulative counts as they stood when the epoch began.
     openings_then: Vec<u64>,
     quarantines_then: u64,
@@ -40,6 +60,7 @@ impl Tally {
             quarantines: 0,
             spent: 0,
             accesses: 0,
+            openings_before: vec![0; n + q],
             openings_then: vec![0; n + q],
             quarantines_then: 0,
             spent_then: 0,
@@ -64,6 +85,7 @@ impl Tally {
             }
             Call::Tick if answer.number == 0 => {
                 let figures = self.figures();
+                std::mem::swap(&mut self.openings_before, &mut self.openings_then);
                 self.openings_then.clone_from(&self.openings);
                 self.quarantines_then = self.quarantines;
                 self.spent_then = self.spent;
@@ -94,11 +116,6 @@ impl Tally {
         }
     }
 
-    /// Openings of one physical row in the epoch so far.
-    fn opened(&self, physical: usize) -> u64 {
-        self.openings[physical] - self.openings_then[physical]
-    }
-
     /// Judges that a 9, if that is what the last call got, does not come early: two slots for each quarantine of the
     /// epoch so far are all slots but one at least, and each quarantine, the refused one included, took A accesses.
     pub fn judge_nine(&self, s: &Settings, answer: &Answer) -> Result<(), String> {
@@ -111,12 +128,15 @@ impl Tally {
         }
     }
 
-    /// The figures of the epoch so far.
+    /// The figures of the epoch so far, and with the one before.
     pub fn figures(&self) -> Figures {
-        let most = |from: usize, to: usize| (from..to).map(|p| self.opened(p)).max().unwrap_or(0);
+        let most = |since: &[u64], rows: Range<usize>| rows.map(|p| self.openings[p] - since[p]).max().unwrap_or(0);
+        let (homes, slots) = (0..self.n, self.n..self.openings.len());
         Figures {
-            home: most(0, self.n),
-            slot: most(self.n, self.openings.len()),
+            home: most(&self.openings_then, homes.clone()),
+            slot: most(&self.openings_then, slots.clone()),
+            home_over_tick: most(&self.openings_before, homes),
+            slot_over_tick: most(&self.openings_before, slots),
             quarantines: self.quarantines - self.quarantines_then,
             spent: self.spent - self.spent_then,
         }
@@ -124,15 +144,16 @@ impl Tally {
 }
 
 /// Judges an epoch's figures by demand 3's bounds; a slot's is that of document 02, Ask 4, and the quarantines are at
-/// most B times 01's figure, "and so are the slots needed" (Ask 5).
+/// most B times 01's figure, "and so are the slots needed" (Ask 5). With the epoch before, the bounds are Ask 6's.
 pub fn judge(s: &Settings, f: &Figures) -> Result<(), String> {
     let a = u64::from(s.a);
     let most = s.figure();
-    let holds =
+    let epoch =
         f.home <= a + 2 && f.slot <= a + 3 && f.quarantines <= most && (u64::from(s.q) < 2 * most || f.spent == 0);
-    if holds {
-        Ok(())
-    } else {
-        Err(format!("an epoch breaks demand 3's bounds: {f:?} with {s:?}"))
+    let over_tick = f.home_over_tick <= 2 * a + 4 && f.slot_over_tick <= 2 * a + 5;
+    match (epoch, over_tick) {
+        (true, true) => Ok(()),
+        (false, _) => Err(format!("an epoch breaks demand 3's bounds: {f:?} with {s:?}")),
+        (true, false) => Err(format!("a stretch over one tick breaks Ask 6's bounds: {f:?} with {s:?}")),
     }
 }

@@ -1,0 +1,131 @@
+-- A stretch of calls cut from a history anywhere, with at most one tick in it. Assumes nothing.
+use Prim.Native.Nat.{ℕ, zero, suc, _+_, _≤_, _<_}
+use native.Mathlib.Nat.{le-refl}
+use native.Mathlib.Omega.{arith}
+use mathlib.Core.Path.{_≡_, refl, subst}
+use mathlib.Core.Logic.{inl, inr}
+use mathlib.Core.List.{List, [], _∷_, _++_, map}
+use lib.Dec.{eqb}
+use Rattle.geometry.specs.declared.Settings.{Settings}
+use Rattle.geometry.specs.Entry.{empty}
+use Rattle.geometry.proofs.Cases.{split}
+use Rattle.engine.specs.State.{State}
+use Rattle.engine.specs.Calls as calls
+use Rattle.history.specs.Tally.{Request, access, tick, inspect, Report, Tally, start, afterRequest, feed}
+use Rattle.history.specs.Run.{Call, Event, step, eventOf, reportOf}
+use Rattle.history.specs.Window.{fed, ticksIn, EachWindow, Window}
+use Rattle.history.proofs.Openings.{home-bound, slot-bound}
+use Rattle.history.proofs.Charge.{charge, charge-most, holds-is}
+use Rattle.history.proofs.Invariant.{Inv}
+use Rattle.history.proofs.Calls.{carried}
+use Rattle.history.proofs.Chain.{Chain, end, call, idle, chain-of, idle-feed, idle-runs}
+use Rattle.history.proofs.History.{inv-set-up, followed}
+
+-- ---- the tally only grows
+
+request-grows : (S : Settings) (τ : Tally) (q : Request) (slot row p : ℕ) → τ .openings p ≤ (afterRequest S τ q slot row) .openings p
+request-grows S τ (access r) slot row p =
+    elim (split (eqb slot empty)) [
+      | inl k ↦ rw k (omega arith)
+      | inr k ↦ rw k (elim (split (eqb row empty)) [ inl m ↦ rw m (omega arith) | inr m ↦ rw m (omega arith) ])
+    ]
+request-grows S τ tick slot row p = le-refl (τ .openings p)
+request-grows S τ (inspect r) slot row p = le-refl (τ .openings p)
+
+feed-grows : (S : Settings) (τ : Tally) (e : Report) (p : ℕ) → τ .openings p ≤ (feed S τ e) .openings p
+feed-grows S τ e p =
+    elim (split (eqb (e .number) 0)) [
+      | inl k ↦ rw k (request-grows S τ (e .request) (e .slot) (e .row) p)
+      | inr k ↦ rw k (le-refl (τ .openings p))
+    ]
+
+module _ (S : Settings) where
+  -- ---- where the stretch begins
+
+  -- a list of events cut in two
+  cut : (xs ys : List Event) {σ σ′ : State} → Chain S σ (xs ++ ys) σ′
+      → (between : State) × (Chain S σ xs between × Chain S between ys σ′)
+  cut [] ys {σ} chain = (σ, (end, chain))
+  cut (x ∷ xs) ys (call c rest) = let k = cut xs ys rest in (k .0, (call c (k .1 .0), k .1 .1))
+  cut (x ∷ xs) ys (idle z rest) = let k = cut xs ys rest in (k .0, (idle z (k .1 .0), k .1 .1))
+
+  -- the epoch that runs began with no more openings than there are now
+  abbrev Since : State → Tally → Type 0
+  Since σ τ = (τ₀ : Tally) × (Inv S σ τ₀ τ × ((p : ℕ) → τ₀ .openings p ≤ τ .openings p))
+
+  since-step : (σ : State) (τ : Tally) → Since σ τ → (c : Call) → Since ((step S σ c) .state) (feed S τ (reportOf (eventOf c (step S σ c))))
+  since-step σ τ k c =
+      let e : Report = reportOf (eventOf c (step S σ c)) in
+      elim (carried S σ (k .0) τ (k .1 .0) c) [
+        | inl v ↦ (feed S τ e, (v .2, λ p. le-refl ((feed S τ e) .openings p)))
+        | inr v ↦ (k .0, (v .1, λ p. omega (arith, k .1 .1 p, feed-grows S τ e p)))
+      ]
+
+  -- ---- the openings of the stretch
+
+  -- from one tally to another each home row is opened at most m times, and the charge of each slot grows by at most m
+  record Within (m : ℕ) (τ₀ τ : Tally) : Type 0 where
+    homes : (r : ℕ) → r < S .n → τ .openings r ≤ τ₀ .openings r + m
+    slots : (s : ℕ) → s < S .q → charge S τ s ≤ charge S τ₀ s + m
+
+  in-epoch : (σ : State) (τ₀ τ : Tally) → Inv S σ τ₀ τ → Within (S .a + 2) τ₀ τ
+  in-epoch σ τ₀ τ I =
+      record {
+        homes = λ r b. home-bound (I .homes r b);
+        slots = λ s b. rw (holds-is S σ (I .sound) τ (I .places) s b) (slot-bound (I .slots s b));
+      }
+
+  -- what an epoch and k more add at most
+  abbrev most : ℕ → ℕ
+  most zero = S .a + 2
+  most (suc k) = S .a + 2 + most k
+
+  -- an epoch, and no more
+  one-epoch : (k : ℕ) (τ₀ τ : Tally) → Within (S .a + 2) τ₀ τ → Within (most k) τ₀ τ
+  one-epoch zero τ₀ τ w = w
+  one-epoch (suc k) τ₀ τ w = record { homes = λ r b. omega (arith, w .homes r b); slots = λ s b. omega (arith, w .slots s b) }
+
+  -- an epoch, and those after the tick that ends it
+  and-more : (k t : ℕ) → 1 + t ≤ k → (τ₀ τ₁ τ : Tally) → Within (S .a + 2) τ₀ τ₁ → ((j : ℕ) → t ≤ j → Within (most j) τ₁ τ)
+      → Within (most k) τ₀ τ
+  and-more zero t few τ₀ τ₁ τ w more = absurd (omega arith)
+  and-more (suc k) t few τ₀ τ₁ τ w more =
+      let m = more k (omega arith) in
+      record { homes = λ r b. omega (arith, w .homes r b, m .homes r b); slots = λ s b. omega (arith, w .slots s b, m .slots s b) }
+
+  -- calls with at most k accepted ticks, told from the beginning of the epoch in which they start
+  over : {σ σ′ : State} {es : List Event} → Chain S σ es σ′ → (k : ℕ) → ticksIn (map reportOf es) ≤ k
+      → (τ₀ τ : Tally) → Inv S σ τ₀ τ → Within (most k) τ₀ (fed S τ (map reportOf es))
+  over (end {σ}) k few τ₀ τ I = one-epoch k τ₀ τ (in-epoch σ τ₀ τ I)
+  over (call {σ} {σ′} {es} c rest) k few τ₀ τ I =
+      elim (carried S σ τ₀ τ I c) [
+        | inl v ↦
+            and-more k (ticksIn (map reportOf es)) (omega (arith, (rw (v .0) at few))) τ₀ _ _ (in-epoch σ τ₀ _ (v .1))
+            (λ j h. over rest j h _ _ (v .2))
+        | inr v ↦ over rest k (omega (arith, (rw (v .0) at few))) τ₀ _ (v .1)
+      ]
+  over (idle z rest) k few τ₀ τ I = rw (fed, idle-feed S τ z) (over rest k (omega (arith, (rw (idle-runs z) at few))) τ₀ τ I)
+
+-- ---- the theorem
+
+-- of every chain from set-up
+pub each-window : (S : Settings) (σ : State) → (calls.setUp S σ) .number ≡ 0 → {σ′ : State} {es : List Event} → Chain S ((calls.setUp S σ) .state) es σ′ → EachWindow S es
+each-window S σ z {σ′} {es} chain before during after e few =
+    let I = inv-set-up S σ z in
+    let told : List Event → List Report = map reportOf in
+    let whole = cut S (before ++ during) after (subst (λ (xs : List Event). Chain S ((calls.setUp S σ) .state) xs σ′) e chain) in
+    let parts = cut S before during (whole .1 .0) in
+    let begun : Since S (parts .0) (fed S start (told before)) =
+    followed S (λ τ x. feed S τ (reportOf x)) (λ τ xs. fed S τ (told xs)) (λ τ. refl) (λ τ x xs. refl) (λ x τ. idle-feed S τ)
+    (Since S) (λ σ₁ τ₀ τ₁ J τ. since-step S σ₁ τ) (parts .1 .0) start start I start (start, (I, λ p. le-refl 0)) in
+    let τ₀ : Tally = begun .0 in
+    let last : Tally = fed S (fed S start (told before)) (told during) in
+    let w : Within S (most S 1) τ₀ last =
+    over S (parts .1 .1) 1 (omega arith) τ₀ (fed S start (told before)) (begun .1 .0) in
+    record {
+      homes = λ r b. omega (arith, w .homes r b, begun .1 .1 r);
+      slots = λ s b. omega (arith, w .slots s b, charge-most S τ₀ s, begun .1 .1 (S .n + s));
+    }
+
+pub window : Window
+window S σ cs z = each-window S σ z (chain-of S cs ((calls.setUp S σ) .state))
