@@ -109,7 +109,8 @@ aqua_outcome aqua_write(aqua_control *control, aqua_settings settings, uint32_t 
                         uint16_t *rows, size_t rows_length, uint32_t *counts, size_t counts_length);
 
 /* Ends the epoch: the trackers of all banks start anew, with passed and each bank's spill and acts 0; head, pointers and
- * store remain. */
+ * store remain. To be called once for each refresh window, and never less than one refresh window after the last tick:
+ * then a row is opened at most 2 * settings.a + 5 times before its refresh comes round, whenever that falls. */
 uint32_t aqua_tick(aqua_control *control, aqua_settings settings, const uint8_t *store, size_t store_length,
                    const uint16_t *forward, size_t forward_length, const uint16_t *reverse, size_t reverse_length,
                    uint16_t *rows, size_t rows_length, uint32_t *counts, size_t counts_length);

@@ -1,7 +1,7 @@
 pub mod Rungs
 pub mod Facts
 pub mod Parts
-pub mod Window
+pub mod GoneBy
 pub mod Skipping
 pub mod Ahead
 pub mod Pointers

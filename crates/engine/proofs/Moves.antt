@@ -23,7 +23,7 @@ use Rattle.engine.specs.declared.Move.the-variants.{Stayed, ToSlot, Over
 use Rattle.engine.specs.Answer.{slotMovedTo}
 use Rattle.engine.specs.State.{State, Tracker, lengthsOf, trackerAt, forwardOf, reverseOf}
 use Rattle.engine.specs.Steps.{place, moves, skips, skipped, destinationFrom, destination, riseTo, rise, move, left, settled}
-use Rattle.engine.proofs.Window.{Slide, next-in}
+use Rattle.engine.proofs.GoneBy.{Slide, next-in}
 use Rattle.engine.proofs.Ahead.{distance, ahead, goes-past}
 use Rattle.engine.proofs.Trackers.{CountingAt, TracksAt, counted-rows-long, counted-counts-long}
 use Rattle.engine.proofs.Pointers.{Sound, Relinked, marks-none, place-is, place-in, left-long, holder, relinked-to, relinked-over}

@@ -7,7 +7,7 @@ use mathlib.Core.Logic.{inl, inr}
 use mathlib.Core.Bool.{Bool, true, false}
 use Rattle.geometry.proofs.Cases.{split}
 use Rattle.engine.specs.Steps.{skippedOf}
-use Rattle.engine.proofs.Window.{next-in}
+use Rattle.engine.proofs.GoneBy.{next-in}
 
 -- the slot n further on than the next
 pub next-there : (q s n : ℕ) → ((s + 1) % q + n) % q ≡ (s + suc n) % q

@@ -23,7 +23,7 @@ use Rattle.engine.specs.Tables.{Inverse}
 use Rattle.engine.proofs.Rungs.{passes, ladder-all}
 use Rattle.engine.proofs.Facts.{Trusted, none-above-all, steady-passes, tick-passes, row-all, late-all, row-passes, row-holds, slot-holds}
 use Rattle.engine.proofs.Facts.{accepted, wanting}
-use Rattle.engine.proofs.Window.{gone-none}
+use Rattle.engine.proofs.GoneBy.{gone-none}
 use Rattle.engine.proofs.Ahead.{ahead-none}
 use Rattle.engine.proofs.Pointers.{Sound, place-in}
 use Rattle.engine.proofs.Moves.{destination-in}

@@ -26,7 +26,8 @@ lodges places p (suc n) = eqb (places n) p || lodges places p n
 lodges-none : (places : ℕ → ℕ) (p n : ℕ) → ((x : ℕ) → x < n → places x ≢ p) → lodges places p n ≡ false
 unfolding lodges
 lodges-none places p zero none = refl
-lodges-none places p (suc n) none = rw (ne-eqb (places n) p (none n (omega arith))) (lodges-none places p n (λ x b. none x (omega arith)))
+lodges-none places p (suc n) none =
+    rw (ne-eqb (places n) p (none n (omega arith))) (lodges-none places p n (λ x b. none x (omega arith)))
 
 lodges-one : (places : ℕ → ℕ) (p n x : ℕ) → x < n → places x ≡ p → lodges places p n ≡ true
 unfolding lodges

@@ -10,7 +10,7 @@ use Rattle.tracking.proofs.Sums.{quotients}
 use Rattle.engine.specs.State.{State, trackerAt, forwardOf, reverseOf}
 use Rattle.engine.specs.Steps.{place}
 use Rattle.history.specs.Tally.{Tally}
-use Rattle.engine.proofs.Window.{goneBy}
+use Rattle.engine.proofs.GoneBy.{goneBy}
 use Rattle.engine.proofs.Ahead.{ahead}
 use Rattle.history.proofs.Openings.{Home, Slot}
 use Rattle.history.proofs.Charge.{charge}

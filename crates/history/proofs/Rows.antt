@@ -13,7 +13,7 @@ use Rattle.tracking.proofs.View.{Grew}
 use Rattle.engine.specs.State.{State, forwardOf, reverseOf}
 use Rattle.engine.specs.Steps.{place, skips}
 use Rattle.history.specs.Tally.{Tally, hit, afterStay}
-use Rattle.engine.proofs.Window.{Slide, slide-keeps}
+use Rattle.engine.proofs.GoneBy.{Slide, slide-keeps}
 use Rattle.history.proofs.Openings.{Home, Slot, home-rests, home-opened, home-leaves, home-returns, home-untouched, slot-rests, slot-opened, slot-skipped, slot-filled, slot-leaves, worn-grew, worn-next}
 use Rattle.engine.proofs.Pointers.{Relinked, marks-none, place-is}
 use Rattle.engine.proofs.Moves.{not-own}

@@ -23,7 +23,8 @@ use Rattle.history.proofs.History.{inv-set-up, followed}
 
 -- ---- the tally only grows
 
-request-grows : (S : Settings) (τ : Tally) (q : Request) (slot row p : ℕ) → τ .openings p ≤ (afterRequest S τ q slot row) .openings p
+request-grows : (S : Settings) (τ : Tally) (q : Request) (slot row p : ℕ)
+    → τ .openings p ≤ (afterRequest S τ q slot row) .openings p
 request-grows S τ (access r) slot row p =
     elim (split (eqb slot empty)) [
       | inl k ↦ rw k (omega arith)
@@ -53,7 +54,8 @@ module _ (S : Settings) where
   abbrev Since : State → Tally → Type 0
   Since σ τ = (τ₀ : Tally) × (Inv S σ τ₀ τ × ((p : ℕ) → τ₀ .openings p ≤ τ .openings p))
 
-  since-step : (σ : State) (τ : Tally) → Since σ τ → (c : Call) → Since ((step S σ c) .state) (feed S τ (reportOf (eventOf c (step S σ c))))
+  since-step : (σ : State) (τ : Tally) → Since σ τ → (c : Call)
+      → Since ((step S σ c) .state) (feed S τ (reportOf (eventOf c (step S σ c))))
   since-step σ τ k c =
       let e : Report = reportOf (eventOf c (step S σ c)) in
       elim (carried S σ (k .0) τ (k .1 .0) c) [
@@ -86,12 +88,15 @@ module _ (S : Settings) where
   one-epoch (suc k) τ₀ τ w = record { homes = λ r b. omega (arith, w .homes r b); slots = λ s b. omega (arith, w .slots s b) }
 
   -- an epoch, and those after the tick that ends it
-  and-more : (k t : ℕ) → 1 + t ≤ k → (τ₀ τ₁ τ : Tally) → Within (S .a + 2) τ₀ τ₁ → ((j : ℕ) → t ≤ j → Within (most j) τ₁ τ)
-      → Within (most k) τ₀ τ
+  and-more : (k t : ℕ) → 1 + t ≤ k → (τ₀ τ₁ τ : Tally) → Within (S .a + 2) τ₀ τ₁
+      → ((j : ℕ) → t ≤ j → Within (most j) τ₁ τ) → Within (most k) τ₀ τ
   and-more zero t few τ₀ τ₁ τ w more = absurd (omega arith)
   and-more (suc k) t few τ₀ τ₁ τ w more =
       let m = more k (omega arith) in
-      record { homes = λ r b. omega (arith, w .homes r b, m .homes r b); slots = λ s b. omega (arith, w .slots s b, m .slots s b) }
+      record {
+        homes = λ r b. omega (arith, w .homes r b, m .homes r b);
+        slots = λ s b. omega (arith, w .slots s b, m .slots s b);
+      }
 
   -- calls with at most k accepted ticks, told from the beginning of the epoch in which they start
   over : {σ σ′ : State} {es : List Event} → Chain S σ es σ′ → (k : ℕ) → ticksIn (map reportOf es) ≤ k
@@ -104,27 +109,29 @@ module _ (S : Settings) where
             (λ j h. over rest j h _ _ (v .2))
         | inr v ↦ over rest k (omega (arith, (rw (v .0) at few))) τ₀ _ (v .1)
       ]
-  over (idle z rest) k few τ₀ τ I = rw (fed, idle-feed S τ z) (over rest k (omega (arith, (rw (idle-runs z) at few))) τ₀ τ I)
+  over (idle z rest) k few τ₀ τ I =
+      rw (fed, idle-feed S τ z) (over rest k (omega (arith, (rw (idle-runs z) at few))) τ₀ τ I)
 
 -- ---- the theorem
 
 -- of every chain from set-up
-pub each-window : (S : Settings) (σ : State) → (calls.setUp S σ) .number ≡ 0 → {σ′ : State} {es : List Event} → Chain S ((calls.setUp S σ) .state) es σ′ → EachWindow S es
+pub each-window : (S : Settings) (σ : State) → (calls.setUp S σ) .number ≡ 0 → {σ′ : State} {es : List Event}
+    → Chain S ((calls.setUp S σ) .state) es σ′ → EachWindow S es
 each-window S σ z {σ′} {es} chain before during after e few =
+    let begun : State = (calls.setUp S σ) .state in
     let I = inv-set-up S σ z in
     let told : List Event → List Report = map reportOf in
-    let whole = cut S (before ++ during) after (subst (λ (xs : List Event). Chain S ((calls.setUp S σ) .state) xs σ′) e chain) in
-    let parts = cut S before during (whole .1 .0) in
-    let begun : Since S (parts .0) (fed S start (told before)) =
+    let first : Tally = fed S start (told before) in
+    let history = cut S (before ++ during) after (subst (λ (xs : List Event). Chain S begun xs σ′) e chain) in
+    let parts = cut S before during (history .1 .0) in
+    let since : Since S (parts .0) first =
     followed S (λ τ x. feed S τ (reportOf x)) (λ τ xs. fed S τ (told xs)) (λ τ. refl) (λ τ x xs. refl) (λ x τ. idle-feed S τ)
     (Since S) (λ σ₁ τ₀ τ₁ J τ. since-step S σ₁ τ) (parts .1 .0) start start I start (start, (I, λ p. le-refl 0)) in
-    let τ₀ : Tally = begun .0 in
-    let last : Tally = fed S (fed S start (told before)) (told during) in
-    let w : Within S (most S 1) τ₀ last =
-    over S (parts .1 .1) 1 (omega arith) τ₀ (fed S start (told before)) (begun .1 .0) in
+    let τ₀ : Tally = since .0 in
+    let w : Within S (most S 1) τ₀ (fed S first (told during)) = over S (parts .1 .1) 1 (omega arith) τ₀ first (since .1 .0) in
     record {
-      homes = λ r b. omega (arith, w .homes r b, begun .1 .1 r);
-      slots = λ s b. omega (arith, w .slots s b, charge-most S τ₀ s, begun .1 .1 (S .n + s));
+      homes = λ r b. omega (arith, w .homes r b, since .1 .1 r);
+      slots = λ s b. omega (arith, w .slots s b, charge-most S τ₀ s, since .1 .1 (S .n + s));
     }
 
 pub window : Window

@@ -1,5 +1,6 @@
--- Document 02, Ask 6. 'A row's own refresh doesn't fall on our ticks, so engineers look at any stretch of calls with at most one tick
--- in it.' The proof is `window` of proofs/Window.antt; the same of what a C caller sees is `WindowServed` of crate `served`.
+-- Document 02, Ask 6. 'A row's own refresh doesn't fall on our ticks, so engineers look at any stretch of calls with at most
+-- one tick in it.' The proof is `window` of proofs/Window.antt; the same of what a C caller sees is `WindowServed` of crate
+-- `served`.
 -- Assumes nothing.
 use Prim.Native.Nat.{ℕ, _+_, _*_, _≤_, _<_}
 use mathlib.Core.Path.{_≡_}
@@ -35,7 +36,8 @@ pub record Windowed (S : Settings) (e : Stretch) : Type 0 where
   -- '.. and a slot's at most 2A + 5'
   pub slots : (s : ℕ) → s < S .q → openingsIn e (slotRow S s) ≤ 2 * S .a + 5
 
--- 'In every such stretch after set-up', of what the calls after set-up answered: wherever they are cut, in the middle of an epoch too
+-- 'In every such stretch after set-up', of what the calls after set-up answered, wherever they are cut: a stretch may begin and
+-- end in the middle of an epoch
 abbrev pub EachWindow : Settings → List Event → Type 0
 EachWindow S es = (before during after : List Event) → es ≡ before ++ during ++ after
     → ticksIn (map reportOf during) ≤ 1

@@ -9,7 +9,7 @@ use lib.Dec.{ltb}
 use borrow.Author.Tests.{lt-ltb, le-ltb}
 use Rattle.geometry.proofs.Cases.{lt?}
 use Rattle.engine.specs.Steps.{skippedOf}
-use Rattle.engine.proofs.Window.{next-in}
+use Rattle.engine.proofs.GoneBy.{next-in}
 use Rattle.engine.proofs.Skipping.{skip-on, skip-none, skip-most, cut-short}
 
 -- of `most` slots from `from` on, n were skipped, and `slot` is next
