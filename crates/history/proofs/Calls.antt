@@ -34,7 +34,7 @@ use Rattle.history.specs.Demand3.{Bounded, AnswersPlace}
 use Rattle.history.proofs.Groups.{spanOff, storeBy, span-good, ladder, at-9, step-cases, of-accepted}
 use Rattle.history.proofs.Openings.{here, home-bound, home-new, slot-bound, slot-new}
 use Rattle.engine.proofs.Trackers.{CountingBy, estimateFor, estimate, newTracker, zero-long, tracker-new, quotients-most}
-use Rattle.history.proofs.Charge.{holds-is, charge-most}
+use Rattle.history.proofs.Charge.{occupied-is, charge-most}
 use Rattle.history.proofs.Invariant.{wornSlot, Inv}
 use Rattle.history.proofs.Access.{tallyAfter, inv-access, never-wanting}
 
@@ -68,7 +68,7 @@ inv-new S σ τ ranges limit sound head-in places =
             (home-new (eqb (forwardOf σ x) empty) (τ .openings x) pos)
       ]);
       slots = λ s b.
-          rw (none (S .n + s), gone-none (S .q) (σ .control .head) s b, holds-is S (calls.ticked S σ) sound τ places s b)
+          rw (none (S .n + s), gone-none (S .q) (σ .control .head) s b, occupied-is S (calls.ticked S σ) sound τ places s b)
           (slot-new (eqb (reverseOf σ s) empty) (τ .openings (S .n + s)) pos);
     }
 

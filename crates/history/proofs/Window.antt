@@ -1,5 +1,5 @@
 -- A stretch of calls cut from a history anywhere, with at most one tick in it. Assumes nothing.
-use Prim.Native.Nat.{ℕ, zero, suc, _+_, _≤_, _<_}
+use Prim.Native.Nat.{ℕ, zero, suc, _+_, _*_, _≤_, _<_}
 use native.Mathlib.Nat.{le-refl}
 use native.Mathlib.Omega.{arith}
 use mathlib.Core.Path.{_≡_, refl, subst}
@@ -15,7 +15,7 @@ use Rattle.history.specs.Tally.{Request, access, tick, inspect, Report, 
 use Rattle.history.specs.Run.{Call, Event, step, eventOf, reportOf}
 use Rattle.history.specs.Window.{fed, ticksIn, EachWindow, Window}
 use Rattle.history.proofs.Openings.{home-bound, slot-bound}
-use Rattle.history.proofs.Charge.{charge, charge-most, holds-is}
+use Rattle.history.proofs.Charge.{charge, charge-most, occupied-is}
 use Rattle.history.proofs.Invariant.{Inv}
 use Rattle.history.proofs.Calls.{carried}
 use Rattle.history.proofs.Chain.{Chain, end, call, idle, chain-of, idle-feed, idle-runs}
@@ -50,13 +50,13 @@ module _ (S : Settings) where
   cut (x ∷ xs) ys (call c rest) = let k = cut xs ys rest in (k .0, (call c (k .1 .0), k .1 .1))
   cut (x ∷ xs) ys (idle z rest) = let k = cut xs ys rest in (k .0, (idle z (k .1 .0), k .1 .1))
 
-  -- the epoch that runs began with no more openings than there are now
-  abbrev Since : State → Tally → Type 0
-  Since σ τ = (τ₀ : Tally) × (Inv S σ τ₀ τ × ((p : ℕ) → τ₀ .openings p ≤ τ .openings p))
+  -- the invariant holds, and the epoch that runs began with no more openings than there are now
+  abbrev Underway : State → Tally → Type 0
+  Underway σ τ = (τ₀ : Tally) × (Inv S σ τ₀ τ × ((p : ℕ) → τ₀ .openings p ≤ τ .openings p))
 
-  since-step : (σ : State) (τ : Tally) → Since σ τ → (c : Call)
-      → Since ((step S σ c) .state) (feed S τ (reportOf (eventOf c (step S σ c))))
-  since-step σ τ k c =
+  underway-step : (σ : State) (τ : Tally) → Underway σ τ → (c : Call)
+      → Underway ((step S σ c) .state) (feed S τ (reportOf (eventOf c (step S σ c))))
+  underway-step σ τ k c =
       let e : Report = reportOf (eventOf c (step S σ c)) in
       elim (carried S σ (k .0) τ (k .1 .0) c) [
         | inl v ↦ (feed S τ e, (v .2, λ p. le-refl ((feed S τ e) .openings p)))
@@ -74,64 +74,59 @@ module _ (S : Settings) where
   in-epoch σ τ₀ τ I =
       record {
         homes = λ r b. home-bound (I .homes r b);
-        slots = λ s b. rw (holds-is S σ (I .sound) τ (I .places) s b) (slot-bound (I .slots s b));
+        slots = λ s b. rw (occupied-is S σ (I .sound) τ (I .places) s b) (slot-bound (I .slots s b));
       }
 
-  -- what an epoch and k more add at most
+  -- one stretch after another
+  joined : {m n : ℕ} {τ₀ τ₁ τ₂ : Tally} → Within m τ₀ τ₁ → Within n τ₁ τ₂ → Within (m + n) τ₀ τ₂
+  joined v w =
+      record {
+        homes = λ r b. omega (arith, v .homes r b, w .homes r b);
+        slots = λ s b. omega (arith, v .slots s b, w .slots s b);
+      }
+
+  -- what the epochs of a stretch with t ticks add at most
   abbrev most : ℕ → ℕ
   most zero = S .a + 2
-  most (suc k) = S .a + 2 + most k
+  most (suc t) = S .a + 2 + most t
 
-  -- an epoch, and no more
-  one-epoch : (k : ℕ) (τ₀ τ : Tally) → Within (S .a + 2) τ₀ τ → Within (most k) τ₀ τ
-  one-epoch zero τ₀ τ w = w
-  one-epoch (suc k) τ₀ τ w = record { homes = λ r b. omega (arith, w .homes r b); slots = λ s b. omega (arith, w .slots s b) }
+  most-one : (t : ℕ) → t ≤ 1 → most t ≤ 2 * S .a + 4
+  most-one zero h = omega arith
+  most-one (suc zero) h = omega arith
+  most-one (suc (suc t)) h = absurd (omega arith)
 
-  -- an epoch, and those after the tick that ends it
-  and-more : (k t : ℕ) → 1 + t ≤ k → (τ₀ τ₁ τ : Tally) → Within (S .a + 2) τ₀ τ₁
-      → ((j : ℕ) → t ≤ j → Within (most j) τ₁ τ) → Within (most k) τ₀ τ
-  and-more zero t few τ₀ τ₁ τ w more = absurd (omega arith)
-  and-more (suc k) t few τ₀ τ₁ τ w more =
-      let m = more k (omega arith) in
-      record {
-        homes = λ r b. omega (arith, w .homes r b, m .homes r b);
-        slots = λ s b. omega (arith, w .slots s b, m .slots s b);
-      }
-
-  -- calls with at most k accepted ticks, told from the beginning of the epoch in which they start
-  over : {σ σ′ : State} {es : List Event} → Chain S σ es σ′ → (k : ℕ) → ticksIn (map reportOf es) ≤ k
-      → (τ₀ τ : Tally) → Inv S σ τ₀ τ → Within (most k) τ₀ (fed S τ (map reportOf es))
-  over (end {σ}) k few τ₀ τ I = one-epoch k τ₀ τ (in-epoch σ τ₀ τ I)
-  over (call {σ} {σ′} {es} c rest) k few τ₀ τ I =
+  -- calls, told from the beginning of the epoch in which they start
+  over : {σ σ′ : State} {es : List Event} → Chain S σ es σ′ → (τ₀ τ : Tally) → Inv S σ τ₀ τ
+      → Within (most (ticksIn (map reportOf es))) τ₀ (fed S τ (map reportOf es))
+  over (end {σ}) τ₀ τ I = in-epoch σ τ₀ τ I
+  over (call {σ} c rest) τ₀ τ I =
       elim (carried S σ τ₀ τ I c) [
-        | inl v ↦
-            and-more k (ticksIn (map reportOf es)) (omega (arith, (rw (v .0) at few))) τ₀ _ _ (in-epoch σ τ₀ _ (v .1))
-            (λ j h. over rest j h _ _ (v .2))
-        | inr v ↦ over rest k (omega (arith, (rw (v .0) at few))) τ₀ _ (v .1)
+        | inl v ↦ rw (v .0) (joined (in-epoch σ τ₀ _ (v .1)) (over rest _ _ (v .2)))
+        | inr v ↦ rw (v .0) (over rest τ₀ _ (v .1))
       ]
-  over (idle z rest) k few τ₀ τ I =
-      rw (fed, idle-feed S τ z) (over rest k (omega (arith, (rw (idle-runs z) at few))) τ₀ τ I)
+  over (idle z rest) τ₀ τ I = rw (fed, idle-runs z, idle-feed S τ z) (over rest τ₀ τ I)
 
 -- ---- the theorem
 
 -- of every chain from set-up
 pub each-window : (S : Settings) (σ : State) → (calls.setUp S σ) .number ≡ 0 → {σ′ : State} {es : List Event}
     → Chain S ((calls.setUp S σ) .state) es σ′ → EachWindow S es
-each-window S σ z {σ′} {es} chain before during after e few =
+each-window S σ z {σ′} chain before during after e few =
     let begun : State = (calls.setUp S σ) .state in
     let I = inv-set-up S σ z in
     let told : List Event → List Report = map reportOf in
     let first : Tally = fed S start (told before) in
     let history = cut S (before ++ during) after (subst (λ (xs : List Event). Chain S begun xs σ′) e chain) in
     let parts = cut S before during (history .1 .0) in
-    let since : Since S (parts .0) first =
+    let underway : Underway S (parts .0) first =
     followed S (λ τ x. feed S τ (reportOf x)) (λ τ xs. fed S τ (told xs)) (λ τ. refl) (λ τ x xs. refl) (λ x τ. idle-feed S τ)
-    (Since S) (λ σ₁ τ₀ τ₁ J τ. since-step S σ₁ τ) (parts .1 .0) start start I start (start, (I, λ p. le-refl 0)) in
-    let τ₀ : Tally = since .0 in
-    let w : Within S (most S 1) τ₀ (fed S first (told during)) = over S (parts .1 .1) 1 (omega arith) τ₀ first (since .1 .0) in
+    (Underway S) (λ σ₁ τ₀ τ₁ J τ. underway-step S σ₁ τ) (parts .1 .0) start start I start (start, (I, λ p. le-refl 0)) in
+    let τ₀ : Tally = underway .0 in
+    let w = over S (parts .1 .1) τ₀ first (underway .1 .0) in
+    let two : most S (ticksIn (told during)) ≤ 2 * S .a + 4 = most-one S (ticksIn (told during)) (omega arith) in
     record {
-      homes = λ r b. omega (arith, w .homes r b, since .1 .1 r);
-      slots = λ s b. omega (arith, w .slots s b, charge-most S τ₀ s, since .1 .1 (S .n + s));
+      homes = λ r b. omega (arith, w .homes r b, two, underway .1 .1 r);
+      slots = λ s b. omega (arith, w .slots s b, two, charge-most S τ₀ s, underway .1 .1 (S .n + s));
     }
 
 pub window : Window

@@ -2,7 +2,7 @@
 -- one tick in it.' The proof is `window` of proofs/Window.antt; the same of what a C caller sees is `WindowServed` of crate
 -- `served`.
 -- Assumes nothing.
-use Prim.Native.Nat.{ℕ, _+_, _*_, _≤_, _<_}
+use Prim.Native.Nat.{ℕ, suc, _+_, _*_, _≤_, _<_}
 use mathlib.Core.Path.{_≡_}
 use mathlib.Core.Bool.{cond}
 use mathlib.Core.List.{List, [], _∷_, _++_, map}
@@ -13,7 +13,7 @@ use Rattle.engine.specs.Calls.{setUp}
 use Rattle.history.specs.Tally.{Report, Tally, start, feed, endsEpoch, Stretch, openingsIn}
 use Rattle.history.specs.Run.{Call, Event, events, reportOf}
 
--- the tally after each of a list of reports
+-- the tally after a list of reports
 abbrev pub fed : Settings → Tally → List Report → Tally
 fed S τ [] = τ
 fed S τ (e ∷ es) = fed S (feed S τ e) es
@@ -21,9 +21,9 @@ fed S τ (e ∷ es) = fed S (feed S τ e) es
 -- how many accepted ticks stand in a list
 abbrev pub ticksIn : List Report → ℕ
 ticksIn [] = 0
-ticksIn (e ∷ es) = cond (endsEpoch e) 1 0 + ticksIn es
+ticksIn (e ∷ es) = cond (endsEpoch e) (suc (ticksIn es)) (ticksIn es)
 
--- the stretch that `during` makes after `before`, which set-up begins: the tally at its start and at its end
+-- the stretch that `during` makes after `before`, the calls from set-up on: the tally at its start and at its end
 abbrev pub stretchOf : Settings → List Report → List Report → Stretch
 stretchOf S before during =
     let first : Tally = fed S start before in

@@ -34,32 +34,25 @@ homeSteps a = often a (0 ∷ 1 ∷ []) ++ 65535 ∷ often a (2 ∷ 0 ∷ [])
 abbrev pub slotSteps : ℕ → List ℕ
 slotSteps a = often a (0 ∷ 1 ∷ []) ++ 65535 ∷ replicate (a - 1) 0 ++ often a (2 ∷ []) ++ 2 ∷ []
 
--- ---- over one tick (document 02, Ask 6) a home row is opened 2A + 4 times, A + 2 times in each epoch: it gets its row back, is read A
--- times, and is copied away
+-- ---- over one tick (document 02, Ask 6) a home row is opened 2A + 4 times, A + 2 times in each epoch: it gets its row back, is read
+-- A times, and is copied away
 
 -- three slots, and three quarantines of each bank in an epoch
 abbrev pub threeSlots : ℕ → ℕ → Settings
 threeSlots b a = withBanks b (settingsOf 4 3 1 3 a (3 * a))
 
--- before the stretch rows 0, 1 and 2 go to slots 0, 1 and 2
-abbrev pub windowHomeBefore : ℕ → List ℕ
-windowHomeBefore a = often a (0 ∷ 1 ∷ 2 ∷ []) ++ 65535 ∷ []
-
--- row 3 goes to slot 0, so that row 0 is sent home, then row 0 to slot 1 and row 1 to slot 2; in the next epoch row 2 goes to slot 0,
--- and row 3 to slot 1, so that row 0 is sent home again, and then row 0 to slot 2
+-- Rows 0, 1 and 2 go to slots 0, 1 and 2. The stretch begins after the first tick: row 3 goes to slot 0, so that row 0 is sent home,
+-- then row 0 to slot 1 and row 1 to slot 2; in the next epoch row 2 goes to slot 0, and row 3 to slot 1, so that row 0 is sent home
+-- again, and then row 0 to slot 2
 abbrev pub windowHomeSteps : ℕ → List ℕ
-windowHomeSteps a = often a (3 ∷ 0 ∷ 1 ∷ []) ++ 65535 ∷ often a (2 ∷ 3 ∷ 0 ∷ [])
+windowHomeSteps a = often a (0 ∷ 1 ∷ 2 ∷ []) ++ 65535 ∷ often a (3 ∷ 0 ∷ 1 ∷ []) ++ 65535 ∷ often a (2 ∷ 3 ∷ 0 ∷ [])
 
--- ---- over one tick a slot is opened 2A + 5 times: A + 3 times before it, by the steps above, and left empty; then it gets a row,
--- which is read A times and copied away
+-- ---- over one tick a slot is opened 2A + 5 times: A + 3 times before the tick, in the last epoch of `slotSteps`, and left empty;
+-- then it gets a row, which is read A times and copied away
 
--- before the stretch rows 0 and 1 go to slots 0 and 1
-abbrev pub windowSlotBefore : ℕ → List ℕ
-windowSlotBefore a = often a (0 ∷ 1 ∷ []) ++ 65535 ∷ []
-
--- the last epoch of `slotSteps`; in the next row 0 goes to slot 0, and then to slot 1
+-- the stretch begins after the first tick; after the second row 0 goes to slot 0, and then to slot 1
 abbrev pub windowSlotSteps : ℕ → List ℕ
-windowSlotSteps a = replicate (a - 1) 0 ++ often a (2 ∷ []) ++ 2 ∷ 65535 ∷ often a (0 ∷ 0 ∷ [])
+windowSlotSteps a = slotSteps a ++ 65535 ∷ often a (0 ∷ 0 ∷ [])
 
 -- ---- with one bank there are floor(L / A) quarantines, and with Q = 2 × floor(L / A) − 1 an access is answered 9
 

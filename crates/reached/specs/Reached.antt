@@ -4,7 +4,7 @@
 use Prim.Native.Nat.{ℕ, suc, _+_, _-_, _*_, _/_}
 use mathlib.Core.Path.{_≡_}
 use mathlib.Core.List.{List, [], _∷_, _++_, map}
-use lib.ListN.{length, replicate, take, drop}
+use lib.ListN.{replicate, take, drop}
 use Rattle.geometry.specs.declared.Settings.{Settings}
 use Rattle.geometry.specs.Numbering.{homeRow, slotRow}
 use Rattle.banks.specs.Banks.{mostBanks}
@@ -14,7 +14,7 @@ use Rattle.history.specs.Tally.{start, Report, Stretch, openingsIn, quarantines
 use Rattle.history.specs.Window.{ticksIn, stretchOf}
 use Rattle.trace_steps.specs.Steps.{stepsFrom}
 use Rattle.replay.specs.Memory.{lent}
-use Rattle.reached.specs.Lists.{upFrom, twoSlots, homeSteps, slotSteps, threeSlots, windowHomeBefore, windowHomeSteps, windowSlotBefore, windowSlotSteps, shortSettings, shortSteps, shortBanks, shortBankSteps}
+use Rattle.reached.specs.Lists.{upFrom, twoSlots, homeSteps, slotSteps, threeSlots, windowHomeSteps, windowSlotSteps, shortSettings, shortSteps, shortBanks, shortBankSteps}
 
 -- the values of A
 abbrev pub thresholds : List ℕ
@@ -46,24 +46,22 @@ SlotReached =
     byBanks 1 (λ b a. map (λ e. openingsIn e (slotRow (twoSlots b a) 0)) (epochsOf (twoSlots b a) (slotSteps a)))
     ≡ byBanks 1 (λ b a. 1 ∷ (a + 3) ∷ [])
 
--- The ticks in the stretch that some steps make after others, and the openings of physical row p in it.
-abbrev pub windowOf : Settings → List ℕ → List ℕ → ℕ → List ℕ
-windowOf S before during p =
-    let told : List Report = map reportOf (answers S (before ++ during)) in
-    let first : List Report = take (length before) told in
-    let rest : List Report = drop (length before) told in
-    ticksIn rest ∷ openingsIn (stretchOf S first rest) p ∷ []
+-- the stretch of all but the first n steps: its ticks, and the openings of physical row p in it
+abbrev pub windowOf : Settings → ℕ → List ℕ → ℕ → List ℕ
+windowOf S n steps p =
+    let told : List Report = map reportOf (answers S steps) in
+    ticksIn (drop n told) ∷ openingsIn (stretchOf S (take n told) (drop n told)) p ∷ []
 
--- over one tick: of row 0's home
+-- over one tick, after the first epoch: of row 0's home
 abbrev pub WindowHomeReached : Type 0
 WindowHomeReached =
-    byBanks 1 (λ b a. windowOf (threeSlots b a) (windowHomeBefore a) (windowHomeSteps a) (homeRow 0))
+    byBanks 1 (λ b a. windowOf (threeSlots b a) (3 * a + 1) (windowHomeSteps a) (homeRow 0))
     ≡ byBanks 1 (λ b a. 1 ∷ (2 * a + 4) ∷ [])
 
 -- .. and of slot 0
 abbrev pub WindowSlotReached : Type 0
 WindowSlotReached =
-    byBanks 1 (λ b a. windowOf (twoSlots b a) (windowSlotBefore a) (windowSlotSteps a) (slotRow (twoSlots b a) 0))
+    byBanks 1 (λ b a. windowOf (twoSlots b a) (2 * a + 1) (windowSlotSteps a) (slotRow (twoSlots b a) 0))
     ≡ byBanks 1 (λ b a. 1 ∷ (2 * a + 5) ∷ [])
 
 -- one bank: of the 5A + 2 steps the last alone is refused

@@ -40,8 +40,8 @@ abbrev pub Demand3Served : Type 0
 Demand3Served = (S : Settings) (blank σ σ′ : State) (es : List Logged) → SetUpPromise S blank σ 0 → Transcript S σ es σ′
     → Kept S (map seenOf es)
 
--- Document 02, Ask 6. For all settings and all lent memory: if `aqua_set_up` answered 0, then every stretch with at most one tick,
--- cut anywhere from what the caller sees of a transcript from there, is as `Windowed` of crate `history` says.
+-- Document 02, Ask 6. For all settings and all lent memory: if `aqua_set_up` answered 0, then every stretch with at most one
+-- accepted tick, cut anywhere from what the caller sees of a transcript from there, is as `Windowed` of crate `history` says.
 abbrev pub WindowServed : Type 0
 WindowServed = (S : Settings) (blank σ σ′ : State) (es : List Logged) → SetUpPromise S blank σ 0 → Transcript S σ es σ′
     → EachWindow S (map seenOf es)

@@ -85,7 +85,7 @@ pub fn printed_trace(counts: &mut Counts) -> Result<(), String> {
     stream.end()
 }
 
-/// The numbers that a stream answered, and the figures of its last epoch.
+/// The numbers that a stream answered, and the figures at its end.
 struct Ran {
     numbers: Vec<u32>,
     figures: Figures,
@@ -132,8 +132,8 @@ fn one_slot_short(a: u32, b: u32, counts: &mut Counts) -> Result<bool, String> {
 
 /// Streams that attain the figures: A + 2 at row 0's home, in its second epoch; A + 3 at slot 0, in its second epoch; 2 A + 4
 /// and 2 A + 5 at the same rows in the second epoch and the third together; and a 9 with one slot less than suffices. The
-/// first four ask for as many entries in a bank, and for as many times A accesses of it, as there are slots; so they attain
-/// them with any number of banks.
+/// first four ask for at most as many entries in a bank as there are slots, and for at most A times as many accesses of it;
+/// so they attain the figures with any number of banks.
 pub fn attained(a: u32, b: u32, counts: &mut Counts) -> Result<(), String> {
     let burst = |row: u32| vec![row; a as usize];
     let tick = || vec![TICK];
@@ -145,12 +145,13 @@ pub fn attained(a: u32, b: u32, counts: &mut Counts) -> Result<(), String> {
     let almost = || vec![0; a as usize - 1];
     let steps = [burst(0), burst(1), tick(), almost(), burst(2), vec![2]];
     let slot = run(two, &steps, counts)?;
-    // With a slot and a row more row 3 sends row 0 home, and row 0 row 1, which sends row 2 home; so after the tick row 2
-    // sends row 3 home, and that row 0 again.
+    // With a slot and a row more: row 3 sends row 0 home, row 0 sends row 1 home, and row 1 row 2. After the second tick row
+    // 2 sends row 3 home, and row 3 sends row 0 home again.
     let first = [burst(0), burst(1), burst(2), tick()];
     let steps = [&first[..], &[burst(3), burst(0), burst(1), tick(), burst(2), burst(3), burst(0)]].concat();
     let home_twice = run(three, &steps, counts)?;
-    // After the tick row 0 takes slot 0, which is empty then, is hammered there, and leaves it.
+    // The same as for A + 3, and after a second tick row 0 takes slot 0, which is empty by then, is hammered there, and
+    // leaves it.
     let steps = [burst(0), burst(1), tick(), almost(), burst(2), vec![2], tick(), burst(0), burst(0)];
     let slot_twice = run(two, &steps, counts)?;
     let figures =
@@ -227,7 +228,8 @@ pub fn hammer(rng: &mut Rng, a: u32, calls: u64, counts: &mut Counts) -> Result<
         "  A {a:>5}: {streams:>5} streams, {epochs:>6} epochs; home {} of {}, slot {} of {}; over one tick {} of {} and {} of \
          {}; quarantines at most B (L / A) (equal in {} epochs of one bank and {} of more); no 9 in {roomy_epochs} epochs \
          with Q >= 2 B (L / A), {tight_spent} with less",
-        most.home, a + 2, most.slot, a + 3, most.home_over_tick, 2 * a + 4, most.slot_over_tick, 2 * a + 5, full[0], full[1],
+        most.home, a + 2, most.slot, a + 3, most.home_over_tick, 2 * a + 4, most.slot_over_tick, 2 * a + 5,
+        full[0], full[1],
     );
     if full.contains(&0) {
         return Err(format!("no epoch had as many quarantines as there can be, for A = {a}: {full:?}"));
