@@ -31,7 +31,7 @@ module _ (S : Settings) (σ : State) (sound : Sound S σ) (r : ℕ) where
   p = place S σ r
 
   -- what holds of the tracker that serves the place, before and after, and of each other, holds of the tracker that serves x
-  by-bank : (P : Tracker → Tracker → Type 0) (x : ℕ) → (bankOf S x ≡ bankOf S p → P (trackerAt S σ p) (trackerAfter S σ r))
+  pub by-bank : (P : Tracker → Tracker → Type 0) (x : ℕ) → (bankOf S x ≡ bankOf S p → P (trackerAt S σ p) (trackerAfter S σ r))
       → (bankOf S x ≢ bankOf S p → P (trackerAt S σ x) (trackerAt S σ x)) → P (trackerAt S σ x) (trackerAt S (counted S σ r) x)
   by-bank P x here there =
       elim (eq? (bankOf S x) (bankOf S p)) [

@@ -1,7 +1,7 @@
 -- What the conditions of the ladder say, as facts about numbers, and back. Assumes nothing.
 use Prim.Native.Nat.{ℕ, _+_, _<_, _≤_}
 use native.Mathlib.Omega.{arith}
-use mathlib.Core.Path.{_≡_, refl, sym}
+use mathlib.Core.Path.{_≡_, refl, sym, _∙_}
 use mathlib.Core.Logic.{_⊎_, inl, inr, _≢_}
 use mathlib.Core.Bool.{Bool, true, false, cond, not, _&&_, false≢true}
 use mathlib.Core.List.{List}
@@ -22,8 +22,8 @@ use Rattle.scan.specs.Scan.{some}
 use Rattle.scan.proofs.Scans.{some-none}
 use Rattle.engine.specs.State.{State, Tracker, lengthsOf, trackerOf, trackerAt, ringOf, forwardOf, reverseOf}
 use Rattle.engine.specs.Steps.{place, moves, skipped, destinationFrom, destination, rise}
-use Rattle.engine.specs.Ladder.{settingsNumber, fitNumber, ringUnsound, trackerUnsound, trackersUnsound, controlUnsound, pointsBack, rowNumber, quarantineNumber, lateNumber, setUpNumber, tickNumber, inspectNumber, accessNumber}
-use Rattle.engine.proofs.Rungs.{pass, unmet, passes, goes-by, reach, only, past, stops-all, ladder-all, if-all, either}
+use Rattle.engine.specs.Ladder.{stops, settingsNumber, fitNumber, ringUnsound, trackerUnsound, trackersUnsound, controlUnsound, pointsBack, rowNumber, quarantineNumber, lateNumber, setUpNumber, tickNumber, inspectNumber, accessNumber}
+use Rattle.engine.proofs.Rungs.{pass, unmet, passes, goes-by, halts, goes-on, applies, reach, only, past, stops-all, ladder-all, if-all, either}
 
 -- a row of the table whose condition is that a test fails
 pub fails-not : {test : Bool} → test ≡ true → not test ≡ false
@@ -343,6 +343,19 @@ module _ (S : Settings) (σ : State) (r : ℕ) (off : Bool) where
       (passes (row-passes S (σ .reverse) (forwardOf σ r) r off (R .row-in) (R .span-in) (R .pointers))
       (passes (goes-by 8 (ne-eqb acts (S .l) (λ e. omega arith)))
       (if-passes (moves S σ r) quarantine (λ d. quarantine-passes (A .room d) (A .target d)))))
+
+  pub refuses : Wanting S σ r off → accessNumber S σ r off ≡ 9
+  unfolding accessNumber lateNumber quarantineNumber
+  refuses W =
+      let R : Reached S σ r off = W .reached in
+      let acts : ℕ = trackerAt S σ (place S σ r) .acts in
+      let acts-more : acts < S .l = R .more in
+      let full : stops (ltb (S .q) (σ .control .passed + rise S σ r)) 9 ≡ 9 =
+      applies 9 (lt-ltb (S .q) (σ .control .passed + rise S σ r) (W .full)) in
+      goes-on _ (tick-passes S σ (R .fit) (R .control))
+      ∙ goes-on _ (row-passes S (σ .reverse) (forwardOf σ r) r off (R .row-in) (R .span-in) (R .pointers))
+      ∙ goes-on _ (goes-by 8 (ne-eqb acts (S .l) (λ e. omega arith)))
+      ∙ rw (W .moving, full) (halts _ (λ z. omega arith))
 
   pub wanting : accessNumber S σ r off ≡ 9 → Wanting S σ r off
   unfolding accessNumber lateNumber quarantine

@@ -9,21 +9,20 @@ use Rattle.geometry.proofs.Cases.{lt?}
 use Rattle.tracking.proofs.View.{quotients-new}
 use Rattle.conditions.proofs.Facts.{ranges-facts, lengths-facts}
 use Rattle.engine.specs.State.{State, Tracker, lengthsOf, trackerAt}
-use Rattle.engine.specs.Steps.{place, moves, destination, rise}
-use Rattle.engine.specs.Ladder.{controlUnsound, tickNumber, accessNumber}
+use Rattle.engine.specs.Steps.{place, moves, rise}
+use Rattle.engine.specs.Ladder.{tickNumber, accessNumber}
 use Rattle.engine.specs.Calls as calls
 use Rattle.engine.specs.Tables.{Inverse}
-use Rattle.engine.proofs.Facts.{Fit, steady, tick-facts, row-holds, slot-holds, wanting, accepts}
+use Rattle.engine.proofs.Facts.{Fit, steady, tick-facts, wanting}
 use Rattle.engine.proofs.Pointers.{Sound}
 use Rattle.engine.proofs.Trackers.{tracker-new}
-use Rattle.engine.proofs.Moves.{destination-in}
 use Rattle.history.specs.Tally.{Tally}
 use Rattle.history.specs.Run.{Call, access, tick, inspect, rowOf}
 use Rattle.history.specs.Demand2.{GoodAccess, NineIsGood, AcceptedAfterTick}
 use Rattle.history.proofs.Groups.{spanOff, span-good, span-in, ladder, step-number, at-9, accepted-step}
 use Rattle.history.proofs.Invariant.{Inv}
 use Rattle.history.proofs.Access.{wanting-few}
-use Rattle.history.proofs.Calls.{inv-new, sound-ticked, tick-passed}
+use Rattle.history.proofs.Calls.{inv-new, sound-ticked, access-0}
 
 module _ (S : Settings) (σ : State) (inverse : Inverse S σ) (tick-0 : tickNumber S σ ≡ 0) where
   fit : Fit S σ
@@ -48,10 +47,6 @@ module _ (S : Settings) (σ : State) (inverse : Inverse S σ) (tick-0 : tickNumb
   more-then r =
       subst (λ (t : Tracker). t .acts < S .l) (sym (tracker-new S σ (place S (calls.ticked S σ) r) (sound .ranges .b-low))) (sound .ranges .l-low)
 
-  -- 1 to 4 are passed again
-  passed-then : Fit S (calls.ticked S σ) × (controlUnsound S ((calls.ticked S σ) .control) ((calls.ticked S σ) .counts) ≡ false)
-  passed-then = tick-facts S (calls.ticked S σ) (tick-passed S (calls.ticked S σ) asPlaced asPlaced begun)
-
   -- there is room for a move
   has-room : (r : ℕ) → r < S .n → moves S (calls.ticked S σ) r ≡ true → 0 + rise S (calls.ticked S σ) r ≤ S .q
   has-room r row-in m =
@@ -69,20 +64,7 @@ module _ (S : Settings) (σ : State) (inverse : Inverse S σ) (tick-0 : tickNumb
   -- an access of a row in its range, with a span that is not off
   accepted-then : (r : ℕ) (off : Bool) → r < S .n → off ≡ false → accessNumber S (calls.ticked S σ) r off ≡ 0
   accepted-then r off row-in span-in =
-      accepts S (calls.ticked S σ) r off
-      (record {
-        reached = record {
-          fit = passed-then .0;
-          control = passed-then .1;
-          row-in = row-in;
-          span-in = span-in;
-          pointers = row-holds S (calls.ticked S σ) r (sound .inverse .forward r row-in);
-          more = more-then r;
-        };
-        room = has-room r row-in;
-        target = λ m. slot-holds S (calls.ticked S σ) (destination S (calls.ticked S σ) r)
-            (sound .inverse .reverse (destination S (calls.ticked S σ) r) (destination-in S (calls.ticked S σ) r head-in));
-      })
+      access-0 S (calls.ticked S σ) asPlaced asPlaced begun r off row-in span-in (more-then r) (has-room r row-in)
 
   good-then : (c : Call) → GoodAccess S c → ladder S (calls.ticked S σ) c ≡ 0
   good-then (access a) g = accepted-then (rowOf a) (spanOff S a) (g .0) (span-in S a (g .1))

@@ -16,13 +16,13 @@ use Rattle.tracking.proofs.View.{spill-within, spill-below, count-within}
 use Rattle.banks.proofs.Banks.{bank-itself}
 use Rattle.row_layout.proofs.Laws.{length-written}
 use Rattle.engine.specs.State.{State, Tracker, lengthsOf, trackerOf, trackerAt, ringOf, forwardOf, reverseOf}
-use Rattle.engine.specs.Steps.{place, moves, skipped, destination, move, stateAfter}
+use Rattle.engine.specs.Steps.{place, moves, skipped, destination, rise, move, stateAfter}
 use Rattle.engine.specs.Ladder.{pointsBack, rowNumber, tickNumber, inspectNumber, accessNumber}
 use Rattle.engine.specs.Calls as calls
 use Rattle.engine.specs.Tables.{Inverse}
 use Rattle.engine.proofs.Rungs.{passes, ladder-all}
 use Rattle.engine.proofs.Facts.{Trusted, none-above-all, steady-passes, tick-passes, row-all, late-all, row-passes, row-holds, slot-holds}
-use Rattle.engine.proofs.Facts.{accepted, wanting}
+use Rattle.engine.proofs.Facts.{destinationHolds, tick-facts, Reached, accepted, accepts, wanting}
 use Rattle.engine.proofs.GoneBy.{gone-none}
 use Rattle.engine.proofs.Ahead.{ahead-none}
 use Rattle.engine.proofs.Pointers.{Sound, place-in}
@@ -186,6 +186,21 @@ module _ (S : Settings) (σ : State) (τ₀ τ : tally.Tally) (I : Inv S σ τ�
   unfolding inspectNumber
   inspect-0 r row-in = passes tick-passed (row-passes S (σ .reverse) (forwardOf σ r) r false row-in refl (row-sure r row-in))
 
+  -- a slot's pointers hold, of the destination
+  target-sure : (r : ℕ) → destinationHolds S σ (destination S σ r) ≡ true
+  target-sure r = let d : ℕ = destination S σ r in slot-holds S σ d (I .sound .inverse .reverse d (destination-in S σ r (I .head-in)))
+
+  -- an access of a row in its range, with a span that is not off, and accesses left: it is past 1 to 8,
+  module _ (r : ℕ) (off : Bool) (row-in : r < S .n) (span-in : off ≡ false) (more : trackerAt S σ (place S σ r) .acts < S .l) where
+    pub past-8 : Reached S σ r off
+    past-8 =
+        let f = tick-facts S σ tick-passed in
+        record { fit = f .0; control = f .1; row-in = row-in; span-in = span-in; pointers = row-sure r row-in; more = more }
+
+    -- and accepted, where there is room for a move
+    pub access-0 : (moves S σ r ≡ true → σ .control .passed + rise S σ r ≤ S .q) → accessNumber S σ r off ≡ 0
+    access-0 room = accepts S σ r off (record { reached = past-8; room = room; target = λ m. target-sure r })
+
   -- P holds of 0, 5, 6, 8 and 9
   module _ (P : ℕ → Type 0) (p0 : P 0) (p5 : P 5) (p6 : P 6) (p8 : P 8) (p9 : P 9) where
     usual-row : (r : ℕ) (off : Bool) → P (rowNumber S (σ .reverse) (forwardOf σ r) r off)
@@ -199,9 +214,7 @@ module _ (S : Settings) (σ : State) (τ₀ τ : tally.Tally) (I : Inv S σ τ�
         ladder-all P _ _ (rw tick-passed p0) (λ e.
         ladder-all P _ _ (usual-row r off) (λ f.
         late-all P p0 p8 p9 S (ringOf (σ .control)) (trackerAt S σ (place S σ r) .acts) (σ .forward) (σ .reverse)
-        (skipped S σ r) (moves S σ r) (λ m k.
-        let d : ℕ = destination S σ r in
-        absurd (true≢false (sym (slot-holds S σ d (I .sound .inverse .reverse d (destination-in S σ r (I .head-in)))) ∙ k)))))
+        (skipped S σ r) (moves S σ r) (λ m k. absurd (true≢false (sym (target-sure r) ∙ k)))))
 
     pub usual : (c : Call) → P (ladder S σ c)
     unfolding inspectNumber

@@ -15,3 +15,12 @@ pub mod Spent
 pub mod AfterTick
 pub mod Memory
 pub mod Refusals
+pub mod Known
+pub mod OneRead
+pub mod Reading
+pub mod Play
+pub mod Witness
+pub mod Slots
+pub mod March
+pub mod Short
+pub mod Tight

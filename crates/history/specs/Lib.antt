@@ -4,5 +4,6 @@ pub mod Demand1
 pub mod Demand2
 pub mod Demand3
 pub mod Window
+pub mod Tight
 pub mod Estimates
 pub mod Spent

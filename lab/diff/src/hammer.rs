@@ -8,7 +8,8 @@ use model::fault::Fault;
 use model::memory::{Answer, Call, Memory, Settings, NONE};
 use model::rng::Rng;
 
-const TICK: u32 = 65_535;
+/// The mark of a tick among the rows to read.
+pub const TICK: u32 = 65_535;
 
 /// A history of reads and ticks.
 struct Stream<'a> {
@@ -85,20 +86,21 @@ pub fn printed_trace(counts: &mut Counts) -> Result<(), String> {
     stream.end()
 }
 
-/// The numbers that a stream answered, and the figures at its end.
-struct Ran {
-    numbers: Vec<u32>,
+/// The numbers that a stream answered, the figures at its end, and the greatest of any epoch.
+pub struct Ran {
+    pub numbers: Vec<u32>,
     figures: Figures,
+    pub most: Figures,
 }
 
-fn run(s: Settings, steps: &[Vec<u32>], counts: &mut Counts) -> Result<Ran, String> {
+pub fn run(s: Settings, steps: &[Vec<u32>], counts: &mut Counts) -> Result<Ran, String> {
     let mut stream = Stream::new(s, counts)?;
     let mut numbers = Vec::new();
     for &step in steps.iter().flatten() {
         numbers.push(stream.step(step)?.number);
     }
     stream.end()?;
-    Ok(Ran { numbers, figures: stream.watcher.tally.figures() })
+    Ok(Ran { numbers, figures: stream.watcher.tally.figures(), most: stream.most })
 }
 
 /// A stream that meets a 9 with one slot less than suffices, and none with one slot more, where its last epoch has as

@@ -12,6 +12,7 @@ mod seen;
 mod sizing;
 mod sound;
 mod tally;
+mod witness;
 mod worn;
 
 use model::fault::{Fault, FAULTS};
@@ -81,7 +82,7 @@ fn hammering(rng: &mut Rng, counts: &mut Counts) -> Result<(), String> {
         "   streams attain A + 2 at a home, A + 3 at a slot, over one tick 2 A + 4 and 2 A + 5, B (L / A) quarantines and a 9 \
          with Q = 2 B (L / A) - 1, for A up to 250 with every B, for A = 1,000 and 65,535 with B = 1, 2 and 3"
     );
-    Ok(())
+    witness::reached(counts)
 }
 
 /// Every planted fault must show as a difference; sound histories and garbage memory take turns.

@@ -31,6 +31,16 @@ const MALFORMED: usize = 2_600;
 /// Files with more steps than this are tried on a planted fault only while nothing shorter shows it.
 const LONG: u64 = 1_000;
 
+/// Lists that reach the figures, from the repository's examples.
+const WITNESSES: [&str; 6] = [
+    include_str!("../../../examples/witness/home.trace"),
+    include_str!("../../../examples/witness/slot.trace"),
+    include_str!("../../../examples/witness/home-over-tick.trace"),
+    include_str!("../../../examples/witness/slot-over-tick.trace"),
+    include_str!("../../../examples/witness/quarantines.trace"),
+    include_str!("../../../examples/witness/nine.trace"),
+];
+
 /// Where a file is kept that the program fails on.
 const KEPT: &str = "target/trace-failed.in";
 
@@ -144,6 +154,7 @@ fn run(program: &Program, seed: u64) -> Result<(), String> {
     files.extend(worn::files(rng, WORN));
     files.extend(hostile::files(rng));
     files.extend(malformed::files(rng, MALFORMED));
+    files.extend(WITNESSES.map(|text| File::new("witness", text)));
     let expect = |file: File| {
         let printed = interpret(&file.bytes, Flaw::Nothing);
         (file, printed)

@@ -1,0 +1,142 @@
+-- The lists that reach the figures of openings. Assumes nothing.
+use Prim.Native.Nat.{ℕ, suc, _+_, _-_, _*_, _<_, _≤_}
+use native.Mathlib.Omega.{arith}
+use mathlib.Core.Path.{_≡_, refl}
+use mathlib.Core.Logic.{inl, inr}
+use mathlib.Core.Bool.{true, _&&_}
+use mathlib.Core.List.{List, [], _∷_, _++_}
+use lib.Dec.{ltb, leb}
+use borrow.Author.Tests.{ltb-true, le-leb, leb-true}
+use Rattle.geometry.specs.declared.Settings.{Settings}
+use Rattle.geometry.specs.Numbering.{homeRow, slotRow}
+use Rattle.geometry.specs.Entry.{empty}
+use Rattle.geometry.proofs.Tests.{and-left, and-right}
+use Rattle.banks.specs.Banks.{bankOf}
+use Rattle.history.specs.Tally.{Tally, hit, start, openingsIn}
+use Rattle.history.specs.Tight.{Part, reads, twoSlots, threeSlots, twoFilled, threeFilled, homeParts, homePartsOver, slotParts, slotPartsOver, Some}
+use Rattle.history.proofs.Known.{Picture, raised, placeIn, afterReads, Fits, afterMove, afterTick, fresh}
+use Rattle.history.proofs.Play.{Fate, stays, goes, Play, done, stay, go, tick, then, tallied, epochsOf}
+
+-- ---- Parts of a list in which it does not matter how the places are spread over banks: what is at most used is u in each.
+
+module _ {S : Settings} {P : Picture} {r n : ℕ} (u : ℕ) (fit : (ltb r (S .n) && leb u (S .k)) ≡ true)
+    (kept : (c : ℕ) → P .used c ≤ u) (more : 0 < n → P .estimates (placeIn S P r) ≡ 0 → P .used (bankOf S (placeIn S P r)) < u)
+    (left : P .acts (bankOf S (placeIn S P r)) + n ≤ S .l) where
+  fits : Fits S P r n (λ c. u) (λ c. P .acts c + n)
+  fits =
+      record {
+        row-in = ltb-true r (S .n) (and-left (ltb r (S .n)) (leb u (S .k)) fit);
+        used-kept = kept;
+        used-more = more;
+        used-in = leb-true u (S .k) (and-right (ltb r (S .n)) (leb u (S .k)) fit);
+        acts-kept = λ c. omega arith;
+        acts-more = omega arith;
+        acts-in = left;
+      }
+
+  pub stay-at : {P′ : Picture} {ps : List Part} {fs : List Fate} → P .estimates (placeIn S P r) + n < S .a
+      → Play S (afterReads S P r n (λ c. u) (λ c. P .acts c + n)) ps fs P′ → Play S P (reads r n ∷ ps) (stays ∷ fs) P′
+  stay-at low rest = stay fits low rest
+
+  pub go-at : {P′ : Picture} {ps : List Part} {fs : List Fate} {d v : ℕ} → 0 < n → P .estimates (placeIn S P r) + n ≡ S .a
+      → raised (placeIn S P r) n (P .estimates) (S .n + P .head) < S .a → ltb (P .passed) (S .q) ≡ true
+      → P .head ≡ d → P .reverse (P .head) ≡ v
+      → Play S (afterMove S (afterReads S P r n (λ c. u) (λ c. P .acts c + n)) r) ps fs P′ → Play S P (reads r n ∷ ps) (goes d v ∷ fs) P′
+  go-at some due free room at held rest = go fits some due free (omega (arith, ltb-true (P .passed) (S .q) room)) at held rest
+
+-- ---- two slots
+
+module _ (b m : ℕ) where
+  abbrev pub Two : Settings
+  Two = twoSlots b (suc m)
+
+  -- rows 0 and 1 go to slots 0 and 1
+  abbrev pub filling : List Fate
+  filling = goes 0 empty ∷ goes 1 empty ∷ []
+
+  abbrev pub fill : (P : Picture) × Play Two fresh (twoFilled (suc m)) filling P
+  fill = (
+    _,
+    go-at 1 refl (λ c. omega arith) (λ some e. omega arith) (omega arith) (omega arith) (omega arith) (omega arith) refl refl refl
+        (go-at 2 refl (λ c. omega arith) (λ some e. omega arith) (omega arith) (omega arith) (omega arith) (omega arith) refl refl refl
+        (tick done)),
+  )
+
+  -- row 2 goes to slot 0, and row 0, which is sent home, to slot 1
+  abbrev pub homeFates : List Fate
+  homeFates = goes 0 0 ∷ goes 1 1 ∷ []
+
+  pub home-play : (P : Picture) × Play Two (fill .0) (homeParts (suc m)) homeFates P
+  home-play = (
+    _,
+    go-at 1 refl (λ c. omega arith) (λ some e. omega arith) (omega arith) (omega arith) (omega arith) (omega arith) refl refl refl
+        (go-at 2 refl (λ c. omega arith) (λ some e. omega arith) (omega arith) (omega arith) (omega arith) (omega arith) refl refl refl
+        done),
+  )
+
+  -- row 0 is read in slot 0, row 2 goes to slot 0, and then to slot 1
+  abbrev pub slotFates : List Fate
+  slotFates = stays ∷ goes 0 0 ∷ goes 1 1 ∷ []
+
+  -- the entries that row 0's reads take: with A = 1 it is not read, and slot 0 is a new place for row 2
+  abbrev pub taken : ℕ
+  taken = 1 - (1 - m)
+
+  abbrev pub slot-play : (P : Picture) × Play Two (fill .0) (slotParts (suc m)) slotFates P
+  slot-play = (
+    _,
+    stay-at taken (rw (le-leb taken 2 (omega arith))) (λ c. omega arith) (λ some e. omega arith) (omega arith) (omega arith)
+        (go-at (suc taken) (rw (le-leb (suc taken) 2 (omega arith))) (λ c. omega arith) (λ some e. omega arith) (omega arith) (omega arith) (omega arith) (omega arith) refl refl refl
+        (go-at 2 refl (λ c. omega arith) (λ some e. omega arith) (omega arith) (omega arith) (omega arith) (omega arith) refl refl refl
+        done)),
+  )
+
+  -- after the tick row 0 goes to slot 0, and then to slot 1, from which row 2 is sent home
+  abbrev pub slotFatesOver : List Fate
+  slotFatesOver = slotFates ++ goes 0 empty ∷ goes 1 2 ∷ []
+
+  pub slot-play-over : (P : Picture) × Play Two (fill .0) (slotPartsOver (suc m)) slotFatesOver P
+  slot-play-over = (
+    _,
+    then (slot-play .1)
+        (tick
+        (go-at 1 refl (λ c. omega arith) (λ some e. omega arith) (omega arith) (omega arith) (omega arith) (omega arith) refl refl refl
+        (go-at 2 refl (λ c. omega arith) (λ some e. omega arith) (omega arith) (omega arith) (omega arith) (omega arith) refl refl refl
+        done))),
+  )
+
+-- ---- three slots
+
+module _ (b m : ℕ) where
+  abbrev pub Three : Settings
+  Three = threeSlots b (suc m)
+
+  -- rows 0, 1 and 2 go to slots 0, 1 and 2
+  abbrev pub fillingAll : List Fate
+  fillingAll = goes 0 empty ∷ goes 1 empty ∷ goes 2 empty ∷ []
+
+  abbrev pub fill-all : (P : Picture) × Play Three fresh (threeFilled (suc m)) fillingAll P
+  fill-all = (
+    _,
+    go-at 1 refl (λ c. omega arith) (λ some e. omega arith) (omega arith) (omega arith) (omega arith) (omega arith) refl refl refl
+        (go-at 2 refl (λ c. omega arith) (λ some e. omega arith) (omega arith) (omega arith) (omega arith) (omega arith) refl refl refl
+        (go-at 3 refl (λ c. omega arith) (λ some e. omega arith) (omega arith) (omega arith) (omega arith) (omega arith) refl refl refl
+        (tick done))),
+  )
+
+  -- each of rows 3, 0 and 1 sends home the next, and so does each of rows 2, 3 and 0 after the tick
+  abbrev pub homeFatesOver : List Fate
+  homeFatesOver = goes 0 0 ∷ goes 1 1 ∷ goes 2 2 ∷ goes 0 3 ∷ goes 1 0 ∷ goes 2 1 ∷ []
+
+  pub home-play-over : (P : Picture) × Play Three (fill-all .0) (homePartsOver (suc m)) homeFatesOver P
+  home-play-over = (
+    _,
+    go-at 1 refl (λ c. omega arith) (λ some e. omega arith) (omega arith) (omega arith) (omega arith) (omega arith) refl refl refl
+        (go-at 2 refl (λ c. omega arith) (λ some e. omega arith) (omega arith) (omega arith) (omega arith) (omega arith) refl refl refl
+        (go-at 3 refl (λ c. omega arith) (λ some e. omega arith) (omega arith) (omega arith) (omega arith) (omega arith) refl refl refl
+        (tick
+        (go-at 1 refl (λ c. omega arith) (λ some e. omega arith) (omega arith) (omega arith) (omega arith) (omega arith) refl refl refl
+        (go-at 2 refl (λ c. omega arith) (λ some e. omega arith) (omega arith) (omega arith) (omega arith) (omega arith) refl refl refl
+        (go-at 3 refl (λ c. omega arith) (λ some e. omega arith) (omega arith) (omega arith) (omega arith) (omega arith) refl refl refl
+        done)))))),
+  )
