@@ -4,7 +4,7 @@ use native.Mathlib.Nat.{le-refl, suc-mul, mul-le-mul-right, mod-eq-of-lt, add-mo
 use native.Mathlib.Omega.{arith}
 use mathlib.Core.Path.{_≡_, refl, sym, ap, _∙_, subst}
 use mathlib.Core.Logic.{_⊎_, inl, inr, _≢_}
-use mathlib.Core.List.{List, [], _∷_, _++_}
+use mathlib.Core.List.{List, [], _∷_}
 use lib.Dec.{ltb, eqb}
 use borrow.Author.Tests.{eq-eqb, ne-eqb, lt-ltb, le-ltb}
 use Rattle.geometry.specs.declared.Settings.{Settings}
@@ -15,10 +15,10 @@ use Rattle.tracking.proofs.Tracking.{one-if}
 use Rattle.engine.specs.Steps.{placeBy}
 use Rattle.history.specs.Tight.{oneShort, eachRead}
 use Rattle.history.proofs.Known.{Picture, raised, placeIn, afterReads, Fits, afterMove}
-use Rattle.history.proofs.Play.{Fate, goes, Play, done, go}
+use Rattle.history.proofs.Play.{Outcome, goes, Play, done, go}
 
 -- row r and those after it go to slot h + r and those after it, which are empty
-abbrev pub eachGoes : ℕ → ℕ → ℕ → List Fate
+abbrev pub eachGoes : ℕ → ℕ → ℕ → List Outcome
 eachGoes h r zero = []
 eachGoes h r (suc m) = goes (h + r) empty ∷ eachGoes h (suc r) m
 
