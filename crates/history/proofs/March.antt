@@ -1,4 +1,4 @@
--- Rows that are read A times each, one after the other, and go to empty slots one after the other, in banks. Assumes nothing.
+-- Rows that are read A times each and go to empty slots, one after the other, two of each bank. Assumes nothing.
 use Prim.Native.Nat.{ℕ, zero, suc, _+_, _-_, _*_, _%_, _<_, _≤_, zero-le}
 use native.Mathlib.Nat.{le-refl, suc-mul, mul-le-mul-right, mod-eq-of-lt, add-mod-right, zero-lt-suc}
 use native.Mathlib.Omega.{arith}
@@ -15,10 +15,10 @@ use Rattle.tracking.proofs.Tracking.{one-if}
 use Rattle.engine.specs.Steps.{placeBy}
 use Rattle.history.specs.Tight.{oneShort, eachRead}
 use Rattle.history.proofs.Known.{Picture, raised, placeIn, afterReads, Fits, afterMove}
-use Rattle.history.proofs.Play.{Outcome, goes, Play, done, go}
+use Rattle.history.proofs.Play.{Course, goes, Play, done, go}
 
 -- row r and those after it go to slot h + r and those after it, which are empty
-abbrev pub eachGoes : ℕ → ℕ → ℕ → List Outcome
+abbrev pub eachGoes : ℕ → ℕ → ℕ → List Course
 eachGoes h r zero = []
 eachGoes h r (suc m) = goes (h + r) empty ∷ eachGoes h (suc r) m
 
@@ -64,12 +64,21 @@ module _ (b : ℕ) (some : 1 ≤ b) where
   share-more : (i : ℕ) → i < 2 * b → share (suc i) (i % b) ≡ suc (share i (i % b))
   unfolding share
   share-more i low =
-      let c : ℕ = i % b in
       elim (below i low) [
         | inl k ↦
-            rw (lt-ltb (i % b) (suc i) (omega (arith, k .1)), le-ltb (i % b + b) (suc i) (omega (arith, k .1)), le-ltb (i % b) i (omega (arith, k .1)), le-ltb (i % b + b) i (omega (arith, k .1)))
+            rw (
+              lt-ltb (i % b) (suc i) (omega (arith, k .1)),
+              le-ltb (i % b + b) (suc i) (omega (arith, k .1)),
+              le-ltb (i % b) i (omega (arith, k .1)),
+              le-ltb (i % b + b) i (omega (arith, k .1)),
+            )
         | inr k ↦
-            rw (lt-ltb (i % b) (suc i) (omega arith), lt-ltb (i % b + b) (suc i) (omega arith), lt-ltb (i % b) i (omega arith), le-ltb (i % b + b) i (omega arith))
+            rw (
+              lt-ltb (i % b) (suc i) (omega arith),
+              lt-ltb (i % b + b) (suc i) (omega arith),
+              lt-ltb (i % b) i (omega arith),
+              le-ltb (i % b + b) i (omega arith),
+            )
       ]
 
   one-most : (x i : ℕ) → one-if (ltb x i) ≤ 1

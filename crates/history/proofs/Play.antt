@@ -15,62 +15,62 @@ use Rattle.history.specs.Run.{Each}
 use Rattle.history.specs.Window.{fed, ticksIn}
 use Rattle.history.specs.Tight.{Part, reads, ticks, readOf, callsOf}
 use Rattle.history.proofs.Known.{Picture, Known, raised, placeIn, afterReads, Fits, afterMove, afterTick}
-use Rattle.history.proofs.Reading.{accessed, stayed, wanting, ended, Answered, joined, one-tick}
+use Rattle.history.proofs.Reading.{accessed, stayed, wanting, ended, Leads, joined, one-tick}
 use Rattle.history.proofs.Reading.{stays as read-stays, goes as read-goes, wants as read-wants}
 
--- ---- outcomes
+-- ---- courses
 
--- what becomes of a row that is read n times
-pub data Outcome : Type 0 where
+-- the course of a part: what becomes of a row that is read n times
+pub data Course : Type 0 where
   -- it stays
-  stays : Outcome
+  stays : Course
   -- with the last read it goes to slot d; v: the row sent home, 65535 for none
-  goes : (d v : ℕ) → Outcome
+  goes : (d v : ℕ) → Course
   -- the last read finds no slot
-  wants : Outcome
+  wants : Course
 
 -- what its reads answer
-abbrev pub answersOf : ℕ → ℕ → Outcome → List Report
+abbrev pub answersOf : ℕ → ℕ → Course → List Report
 answersOf r n stays = replicate n (stayed r)
 answersOf r zero (goes d v) = []
 answersOf r (suc n) (goes d v) = replicate n (stayed r) ++ accessed r d v ∷ []
 answersOf r zero wants = []
 answersOf r (suc n) wants = replicate n (stayed r) ++ wanting r ∷ []
 
--- what a list answers, with an outcome for each of its parts that is no tick
-abbrev pub reportsOf : List Part → List Outcome → List Report
+-- what a list answers, with a course for each of its parts that is no tick
+abbrev pub reportsOf : List Part → List Course → List Report
 reportsOf [] fs = []
 reportsOf (ticks ∷ ps) fs = ended ∷ reportsOf ps fs
 reportsOf (reads r n ∷ ps) [] = []
 reportsOf (reads r n ∷ ps) (f ∷ fs) = answersOf r n f ++ reportsOf ps fs
 
--- From a memory that is known as the first picture the parts have these outcomes, and leave one that is known as the second.
-pub data Play (S : Settings) : Picture → List Part → List Outcome → Picture → Type 0 where
+-- From a memory that is known as the first picture the parts take these courses, and lead to one that is known as the second.
+pub data Play (S : Settings) : Picture → List Part → List Course → Picture → Type 0 where
   done : {P : Picture} → Play S P [] [] P
-  tick : {P P′ : Picture} {ps : List Part} {fs : List Outcome} → Play S (afterTick P) ps fs P′ → Play S P (ticks ∷ ps) fs P′
-  stay : {P P′ : Picture} {ps : List Part} {fs : List Outcome} {r n : ℕ} {used acts : ℕ → ℕ} → Fits S P r n used acts
+  tick : {P P′ : Picture} {ps : List Part} {fs : List Course} → Play S (afterTick P) ps fs P′ → Play S P (ticks ∷ ps) fs P′
+  stay : {P P′ : Picture} {ps : List Part} {fs : List Course} {r n : ℕ} {used acts : ℕ → ℕ} → Fits S P r n used acts
       → P .estimates (placeIn S P r) + n < S .a
       → Play S (afterReads S P r n used acts) ps fs P′ → Play S P (reads r n ∷ ps) (stays ∷ fs) P′
-  go : {P P′ : Picture} {ps : List Part} {fs : List Outcome} {r n d v : ℕ} {used acts : ℕ → ℕ} → Fits S P r n used acts
+  go : {P P′ : Picture} {ps : List Part} {fs : List Course} {r n d v : ℕ} {used acts : ℕ → ℕ} → Fits S P r n used acts
       → 0 < n → P .estimates (placeIn S P r) + n ≡ S .a
       → raised (placeIn S P r) n (P .estimates) (S .n + P .head) < S .a → P .passed + 1 ≤ S .q
       → P .head ≡ d → P .reverse (P .head) ≡ v
       → Play S (afterMove S (afterReads S P r n used acts) r) ps fs P′ → Play S P (reads r n ∷ ps) (goes d v ∷ fs) P′
-  want : {P P′ : Picture} {ps : List Part} {fs : List Outcome} {r n : ℕ} {used acts : ℕ → ℕ} → Fits S P r (suc n) used acts
+  want : {P P′ : Picture} {ps : List Part} {fs : List Course} {r n : ℕ} {used acts : ℕ → ℕ} → Fits S P r (suc n) used acts
       → P .estimates (placeIn S P r) + suc n ≡ S .a
       → S .q < P .passed + suc (skippedOf (λ s. leb (S .a) (raised (placeIn S P r) (suc n) (P .estimates) (S .n + s))) (S .q) (S .q) (P .head))
       → Play S (afterReads S P r n used acts) ps fs P′ → Play S P (reads r (suc n) ∷ ps) (wants ∷ fs) P′
 
 module _ {S : Settings} where
-  pub played : {P P′ : Picture} {ps : List Part} {fs : List Outcome} → Play S P ps fs P′ → {σ : State} → Known S σ P
-      → Answered S σ (callsOf ps) (reportsOf ps fs) P′
+  pub played : {P P′ : Picture} {ps : List Part} {fs : List Course} → Play S P ps fs P′ → {σ : State} → Known S σ P
+      → Leads S σ (callsOf ps) (reportsOf ps fs) P′
   played done K = record { told-is = refl; known = K }
   played (tick rest) K = let R = one-tick K in joined R (played rest (R .known))
   played (stay {r = r} {n = n} F low rest) K = let R = read-stays S r n K F low in joined R (played rest (R .known))
   played (go {n = zero} F some due free room at held rest) K = absurd (omega arith)
   played (go {P = P} {r = r} {n = suc n} {d = d} {v = v} {used = used} {acts = acts} F some due free room at held rest) {σ} K =
       let R = read-goes S r n K F due free room in
-      let R′ : Answered S σ (replicate (suc n) (readOf r)) (replicate n (stayed r) ++ accessed r d v ∷ []) (afterMove S (afterReads S P r (suc n) used acts) r) =
+      let R′ : Leads S σ (replicate (suc n) (readOf r)) (replicate n (stayed r) ++ accessed r d v ∷ []) (afterMove S (afterReads S P r (suc n) used acts) r) =
       record {
         told-is = R .told-is
             ∙ ap (λ (x : ℕ). replicate n (stayed r) ++ accessed r x (P .reverse (P .head)) ∷ []) at
@@ -81,7 +81,7 @@ module _ {S : Settings} where
   played (want {r = r} {n = n} F due full rest) K = let R = read-wants S r n K F due full in joined R (played rest (R .known))
 
   -- one list after another
-  pub then : {P P₁ P′ : Picture} {ps qs : List Part} {fs gs : List Outcome} → Play S P ps fs P₁ → Play S P₁ qs gs P′ → Play S P (ps ++ qs) (fs ++ gs) P′
+  pub then : {P P₁ P′ : Picture} {ps qs : List Part} {fs gs : List Course} → Play S P ps fs P₁ → Play S P₁ qs gs P′ → Play S P (ps ++ qs) (fs ++ gs) P′
   then done next = next
   then (tick rest) next = tick (then rest next)
   then (stay F low rest) next = stay F low (then rest next)
@@ -95,28 +95,28 @@ abbrev pub readAt : Tally → ℕ → ℕ → Tally
 readAt τ r n =
     record { place = τ .place; openings = λ x. τ .openings x + n * hit (τ .place r) x; quarantines = τ .quarantines }
 
--- after n reads of row r with that outcome
-abbrev pub tallyOf : Settings → Tally → ℕ → ℕ → Outcome → Tally
+-- after n reads of row r with that course
+abbrev pub tallyOf : Settings → Tally → ℕ → ℕ → Course → Tally
 tallyOf S τ r n stays = readAt τ r n
 tallyOf S τ r zero (goes d v) = τ
 tallyOf S τ r (suc n) (goes d v) = afterAccess S (readAt τ r n) r d v
 tallyOf S τ r zero wants = τ
 tallyOf S τ r (suc n) wants = readAt τ r n
 
-abbrev pub tallied : Settings → Tally → List Part → List Outcome → Tally
+abbrev pub tallied : Settings → Tally → List Part → List Course → Tally
 tallied S τ [] fs = τ
 tallied S τ (ticks ∷ ps) fs = tallied S τ ps fs
 tallied S τ (reads r n ∷ ps) [] = τ
 tallied S τ (reads r n ∷ ps) (f ∷ fs) = tallied S (tallyOf S τ r n f) ps fs
 
 -- the epochs; τ₀: the tally at the start of the one that runs
-abbrev pub epochsOf : Settings → Tally → Tally → List Part → List Outcome → List Stretch
+abbrev pub epochsOf : Settings → Tally → Tally → List Part → List Course → List Stretch
 epochsOf S τ₀ τ [] fs = record { first = τ₀; last = τ } ∷ []
 epochsOf S τ₀ τ (ticks ∷ ps) fs = record { first = τ₀; last = τ } ∷ epochsOf S τ τ ps fs
 epochsOf S τ₀ τ (reads r n ∷ ps) [] = record { first = τ₀; last = τ } ∷ []
 epochsOf S τ₀ τ (reads r n ∷ ps) (f ∷ fs) = epochsOf S τ₀ (tallyOf S τ r n f) ps fs
 
-abbrev pub ticksOf : List Part → List Outcome → ℕ
+abbrev pub ticksOf : List Part → List Course → ℕ
 ticksOf [] fs = 0
 ticksOf (ticks ∷ ps) fs = suc (ticksOf ps fs)
 ticksOf (reads r n ∷ ps) [] = 0
@@ -134,7 +134,7 @@ calm-then : (r n : ℕ) (e : Report) → endsEpoch e ≡ false → Calm (replica
 calm-then r zero e k = (k, tt)
 calm-then r (suc n) e k = (refl, calm-then r n e k)
 
-calm : (r n : ℕ) (f : Outcome) → Calm (answersOf r n f)
+calm : (r n : ℕ) (f : Course) → Calm (answersOf r n f)
 calm r n stays = calm-reads r n
 calm r zero (goes d v) = tt
 calm r (suc n) (goes d v) = calm-then r n (accessed r d v) refl
@@ -167,7 +167,7 @@ module _ (S : Settings) where
       let more : τ .openings x + (h + 0) + n * h ≡ τ .openings x + suc n * h = omega (arith, suc-mul n h) in
       more))
 
-  fed-one : (r n : ℕ) (f : Outcome) (τ : Tally) → fed S τ (answersOf r n f) ≡ tallyOf S τ r n f
+  fed-one : (r n : ℕ) (f : Course) (τ : Tally) → fed S τ (answersOf r n f) ≡ tallyOf S τ r n f
   fed-one r n stays τ = fed-stays r n τ
   fed-one r zero (goes d v) τ = refl
   fed-one r (suc n) (goes d v) τ =
@@ -175,7 +175,7 @@ module _ (S : Settings) where
   fed-one r zero wants τ = refl
   fed-one r (suc n) wants τ = fed-append (replicate n (stayed r)) (wanting r ∷ []) τ ∙ fed-stays r n τ
 
-  pub fed-all : (ps : List Part) (fs : List Outcome) (τ : Tally) → fed S τ (reportsOf ps fs) ≡ tallied S τ ps fs
+  pub fed-all : (ps : List Part) (fs : List Course) (τ : Tally) → fed S τ (reportsOf ps fs) ≡ tallied S τ ps fs
   fed-all [] fs τ = refl
   fed-all (ticks ∷ ps) fs τ = fed-all ps fs τ
   fed-all (reads r n ∷ ps) [] τ = refl
@@ -183,7 +183,7 @@ module _ (S : Settings) where
       fed-append (answersOf r n f) (reportsOf ps fs) τ ∙ ap (λ (τ : Tally). fed S τ (reportsOf ps fs)) (fed-one r n f τ)
       ∙ fed-all ps fs (tallyOf S τ r n f)
 
-  pub epochs-all : (ps : List Part) (fs : List Outcome) (τ₀ τ : Tally) → epochs S τ₀ τ (reportsOf ps fs) ≡ epochsOf S τ₀ τ ps fs
+  pub epochs-all : (ps : List Part) (fs : List Course) (τ₀ τ : Tally) → epochs S τ₀ τ (reportsOf ps fs) ≡ epochsOf S τ₀ τ ps fs
   epochs-all [] fs τ₀ τ = refl
   epochs-all (ticks ∷ ps) fs τ₀ τ = ap (λ (es : List Stretch). record { first = τ₀; last = τ } ∷ es) (epochs-all ps fs τ τ)
   epochs-all (reads r n ∷ ps) [] τ₀ τ = refl
@@ -191,7 +191,7 @@ module _ (S : Settings) where
       epochs-calm (answersOf r n f) (reportsOf ps fs) τ₀ τ (calm r n f) ∙ ap (λ (τ : Tally). epochs S τ₀ τ (reportsOf ps fs)) (fed-one r n f τ)
       ∙ epochs-all ps fs τ₀ (tallyOf S τ r n f)
 
-pub ticks-all : (ps : List Part) (fs : List Outcome) → ticksIn (reportsOf ps fs) ≡ ticksOf ps fs
+pub ticks-all : (ps : List Part) (fs : List Course) → ticksIn (reportsOf ps fs) ≡ ticksOf ps fs
 ticks-all [] fs = refl
 ticks-all (ticks ∷ ps) fs = ap suc (ticks-all ps fs)
 ticks-all (reads r n ∷ ps) [] = refl

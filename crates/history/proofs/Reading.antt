@@ -55,29 +55,29 @@ module _ (S : Settings) where
   told-append : (cs ds : List Call) (σ : State) → told S σ (cs ++ ds) ≡ told S σ cs ++ told S (run S σ cs) ds
   told-append cs ds σ = ap (map reportOf) (events-append cs ds σ) ∙ map-append reportOf (events S σ cs) (events S (run S σ cs) ds)
 
--- the calls are answered so, and leave a memory that is known
-pub record Answered (S : Settings) (σ : State) (cs : List Call) (es : List tally.Report) (P : Picture) : Type 0 where
+-- the calls are answered so, and lead to a memory that is known
+pub record Leads (S : Settings) (σ : State) (cs : List Call) (es : List tally.Report) (P : Picture) : Type 0 where
   pub told-is : told S σ cs ≡ es
   pub known : Known S (run S σ cs) P
 
 module _ {S : Settings} where
   pub joined : {σ : State} {cs ds : List Call} {es fs : List tally.Report} {P P′ : Picture}
-      → Answered S σ cs es P → Answered S (run S σ cs) ds fs P′ → Answered S σ (cs ++ ds) (es ++ fs) P′
+      → Leads S σ cs es P → Leads S (run S σ cs) ds fs P′ → Leads S σ (cs ++ ds) (es ++ fs) P′
   joined {σ} {cs} {ds} {P′ = P′} R R′ =
       record {
         told-is = told-append S cs ds σ ∙ rw (R .told-is, R′ .told-is);
         known = subst (λ (σ′ : State). Known S σ′ P′) (sym (run-append S cs ds σ)) (R′ .known);
       }
 
-  read-again : {σ : State} {cs : List Call} {es : List tally.Report} {P : Picture} {estimates used acts : ℕ → ℕ} → Answered S σ cs es P
+  read-again : {σ : State} {cs : List Call} {es : List tally.Report} {P : Picture} {estimates used acts : ℕ → ℕ} → Leads S σ cs es P
       → ((x : ℕ) → x < S .n + S .q → P .estimates x ≡ estimates x) → ((c : ℕ) → P .used c ≤ used c) → ((c : ℕ) → P .acts c ≤ acts c)
-      → Answered S σ cs es (recounted P estimates used acts)
+      → Leads S σ cs es (recounted P estimates used acts)
   read-again R same more-used more-acts = record { told-is = R .told-is; known = known-again (R .known) same more-used more-acts }
 
 -- ---- one call
 
 module _ {S : Settings} {σ : State} {P : Picture} (K : Known S σ P) where
-  by-step : (c : Call) (s : Step) {P′ : Picture} → step S σ c ≡ s → Shown S (s .state) P′ → Answered S σ (c ∷ []) (reportOf (eventOf c s) ∷ []) P′
+  by-step : (c : Call) (s : Step) {P′ : Picture} → step S σ c ≡ s → Shown S (s .state) P′ → Leads S σ (c ∷ []) (reportOf (eventOf c s) ∷ []) P′
   by-step c s {P′} e sh =
       record {
         told-is = ap (λ (x : Step). reportOf (eventOf c x) ∷ []) e;
@@ -90,17 +90,17 @@ module _ {S : Settings} {σ : State} {P : Picture} (K : Known S σ P) where
         };
       }
 
-  pub one-tick : Answered S σ (tick ∷ []) (ended ∷ []) (afterTick P)
+  pub one-tick : Leads S σ (tick ∷ []) (ended ∷ []) (afterTick P)
   one-tick = by-step tick (acceptedStep S σ tick) (accepted-step S σ tick (tick-passed S σ (K .τ₀) (K .τ) (K .inv))) (shown-tick S σ P K)
 
   -- an accepted read of row r
-  one-read : {r slot row : ℕ} {P′ : Picture} → ReadOnce S σ r slot row P′ → Answered S σ (readOf r ∷ []) (accessed r slot row ∷ []) P′
+  one-read : {r slot row : ℕ} {P′ : Picture} → ReadOnce S σ r slot row P′ → Leads S σ (readOf r ∷ []) (accessed r slot row ∷ []) P′
   one-read {r} O =
       let R = by-step (readOf r) (acceptedStep S σ (readOf r)) (accepted-step S σ (readOf r) (O .number-is)) (O .shown) in
       record { told-is = R .told-is ∙ rw (O .slot-is, O .row-is); known = R .known }
 
   -- one that finds no slot
-  one-refused : (r : ℕ) → ladder S σ (readOf r) ≡ 9 → Answered S σ (readOf r ∷ []) (wanting r ∷ []) P
+  one-refused : (r : ℕ) → ladder S σ (readOf r) ≡ 9 → Leads S σ (readOf r ∷ []) (wanting r ∷ []) P
   one-refused r z =
       let R = by-step (readOf r) (refusedStep S σ (readOf r)) (refused-step S σ (readOf r) (λ e. omega arith)) (K .shown) in
       record { told-is = R .told-is ∙ rw z; known = R .known }
@@ -133,7 +133,7 @@ module _ (S : Settings) (r : ℕ) where
   -- they leave it where it is
   pub stays : (n : ℕ) {σ : State} {P : Picture} {used acts : ℕ → ℕ} → Known S σ P → Fits S P r n used acts
       → P .estimates (placeIn S P r) + n < S .a
-      → Answered S σ (replicate n (readOf r)) (replicate n (stayed r)) (afterReads S P r n used acts)
+      → Leads S σ (replicate n (readOf r)) (replicate n (stayed r)) (afterReads S P r n used acts)
   stays zero {P = P} K F low =
       record {
         told-is = refl;
@@ -191,7 +191,7 @@ module _ (S : Settings) (r : ℕ) where
     acts-mid : (c : ℕ) → mid .acts c ≤ acts c
     acts-mid = raised-most (bankOf S (placeIn S P r)) n (P .acts) acts (F .acts-kept) (omega (arith, F .acts-more))
 
-    reads : Answered S σ (replicate n (readOf r)) (replicate n (stayed r)) mid
+    reads : Leads S σ (replicate n (readOf r)) (replicate n (stayed r)) mid
     reads =
         stays n K
         (record {
@@ -225,16 +225,16 @@ module _ (S : Settings) (r : ℕ) where
     twice x = raised-twice (placeIn S P r) n 1 (P .estimates) x ∙ rw add-one
 
     -- the reads and the last are n + 1 reads
-    all : {es : List tally.Report} {P′ : Picture} → Answered S (run S σ (replicate n (readOf r))) (readOf r ∷ []) es P′
-        → Answered S σ (replicate (suc n) (readOf r)) (replicate n (stayed r) ++ es) P′
+    all : {es : List tally.Report} {P′ : Picture} → Leads S (run S σ (replicate n (readOf r))) (readOf r ∷ []) es P′
+        → Leads S σ (replicate (suc n) (readOf r)) (replicate n (stayed r) ++ es) P′
     all {es} {P′} R =
-        subst (λ (cs : List Call). Answered S σ cs (replicate n (stayed r) ++ es) P′)
+        subst (λ (cs : List Call). Leads S σ cs (replicate n (stayed r) ++ es) P′)
         (replicate-append-replicate n 1 (readOf r) ∙ rw add-one)
         (joined reads R)
 
     -- the last finds no slot
     pub wants : S .q < P .passed + suc (skippedOf (λ s. leb (S .a) (raised (placeIn S P r) (suc n) (P .estimates) (S .n + s))) (S .q) (S .q) (P .head))
-        → Answered S σ (replicate (suc n) (readOf r)) (replicate n (stayed r) ++ wanting r ∷ []) (afterReads S P r n used acts)
+        → Leads S σ (replicate (suc n) (readOf r)) (replicate n (stayed r) ++ wanting r ∷ []) (afterReads S P r n used acts)
     wants full =
         let still = subst (λ (f : ℕ → ℕ). S .q < P .passed + suc (skippedOf (λ s. leb (S .a) (f (S .n + s))) (S .q) (S .q) (P .head))) (sym (fun-ext twice)) full in
         all
@@ -243,7 +243,7 @@ module _ (S : Settings) (r : ℕ) where
 
     -- with the last it goes to the slot at the head, which is not worn
     pub goes : raised (placeIn S P r) (suc n) (P .estimates) (S .n + P .head) < S .a → P .passed + 1 ≤ S .q
-        → Answered S σ (replicate (suc n) (readOf r)) (replicate n (stayed r) ++ accessed r (P .head) (P .reverse (P .head)) ∷ [])
+        → Leads S σ (replicate (suc n) (readOf r)) (replicate n (stayed r) ++ accessed r (P .head) (P .reverse (P .head)) ∷ [])
         (afterMove S (afterReads S P r (suc n) used acts) r)
     goes free room =
         all

@@ -18,7 +18,7 @@ use Rattle.history.specs.Tally.{Report, Tally, start}
 use Rattle.history.specs.Tight.{Part, reads, ticks, oneShort, eachRead, shortFilled, nineParts, Some}
 use Rattle.history.proofs.Known.{Picture, raised, placeIn, afterTick, fresh}
 use Rattle.history.proofs.Reading.{stayed, wanting}
-use Rattle.history.proofs.Play.{Outcome, goes, wants, answersOf, Play, done, want, tick, then, reportsOf, tallyOf, tallied, epochsOf}
+use Rattle.history.proofs.Play.{Course, goes, wants, answersOf, Play, done, want, tick, then, reportsOf, tallyOf, tallied, epochsOf}
 use Rattle.history.proofs.Witness.{some-left, some-right}
 use Rattle.history.proofs.March.{eachGoes, share-none, far, Stage, fits, due, march}
 
@@ -42,7 +42,7 @@ each-last n zero i = rw (add-zero i)
 each-last n (suc j) i = ap (λ (ps : List Part). reads i n ∷ ps) (each-last n j (suc i) ∙ rw (let same : suc i + j ≡ i + suc j = omega arith in same))
 
 -- an answer after those of some rows
-some-each : (Q : Report → Type 0) (n h j i : ℕ) (ps : List Part) (fs : List Outcome) → Some Q (reportsOf ps fs)
+some-each : (Q : Report → Type 0) (n h j i : ℕ) (ps : List Part) (fs : List Course) → Some Q (reportsOf ps fs)
     → Some Q (reportsOf (eachRead n i j ++ ps) (eachGoes h i j ++ fs))
 some-each Q n h zero i ps fs s = s
 some-each Q n h (suc j) i ps fs s = some-right Q (answersOf i n (goes (h + i) empty)) _ (some-each Q n h j (suc i) ps fs s)
@@ -140,8 +140,8 @@ module _ (b m : ℕ) (some : 1 ≤ b) (few : b ≤ 16) where
 
   -- ---- the lists
 
-  abbrev pub fillOutcomes : List Outcome
-  fillOutcomes = eachGoes 0 0 (2 * b) ++ []
+  abbrev pub fillCourses : List Course
+  fillCourses = eachGoes 0 0 (2 * b) ++ []
 
   filling : (P : Picture) × (First (2 * b) P × Play S fresh (eachRead (suc m) 0 (2 * b)) (eachGoes 0 0 (2 * b)) P)
   filling =
@@ -150,12 +150,12 @@ module _ (b m : ℕ) (some : 1 ≤ b) (few : b ≤ 16) where
   pub Filled : Picture
   Filled = afterTick (filling .0)
 
-  pub fill : Play S fresh (shortFilled b (suc m)) fillOutcomes Filled
+  pub fill : Play S fresh (shortFilled b (suc m)) fillCourses Filled
   unfolding Filled
   fill = then (filling .1 .1) (tick done)
 
-  abbrev pub nineOutcomes : List Outcome
-  nineOutcomes = eachGoes (2 * b) 0 last ++ wants ∷ []
+  abbrev pub nineCourses : List Course
+  nineCourses = eachGoes (2 * b) 0 last ++ wants ∷ []
 
   nine-are : nineParts b (suc m) ≡ eachRead (suc m) 0 last ++ reads last (suc m) ∷ []
   nine-are =
@@ -172,9 +172,9 @@ module _ (b m : ℕ) (some : 1 ≤ b) (few : b ≤ 16) where
   end : (P : Picture) × Play S (leaving .0) (reads last (suc m) ∷ []) (wants ∷ []) P
   end = refused (leaving .0) (leaving .1 .0)
 
-  pub nine-play : (P : Picture) × Play S Filled (nineParts b (suc m)) nineOutcomes P
+  pub nine-play : (P : Picture) × Play S Filled (nineParts b (suc m)) nineCourses P
   nine-play =
-      (end .0, subst (λ (ps : List Part). Play S Filled ps nineOutcomes (end .0)) (sym nine-are) (then (leaving .1 .1) (end .1)))
+      (end .0, subst (λ (ps : List Part). Play S Filled ps nineCourses (end .0)) (sym nine-are) (then (leaving .1 .1) (end .1)))
 
   -- ---- their figures
 
@@ -186,7 +186,7 @@ module _ (b m : ℕ) (some : 1 ≤ b) (few : b ≤ 16) where
   first-epoch (suc j) i τ₀ τ = first-epoch j (suc i) τ₀ _
 
   pub fill-epochs : (let τ : Tally = tallied S start (eachRead (suc m) 0 (2 * b)) (eachGoes 0 0 (2 * b)) in
-      epochsOf S start start (shortFilled b (suc m)) fillOutcomes ≡ record { first = start; last = τ } ∷ record { first = τ; last = τ } ∷ [])
+      epochsOf S start start (shortFilled b (suc m)) fillCourses ≡ record { first = start; last = τ } ∷ record { first = τ; last = τ } ∷ [])
   fill-epochs = first-epoch (2 * b) 0 start start
 
   quarantined : (j i : ℕ) (τ : Tally) → i + j ≤ 2 * b → (tallied S τ (eachRead (suc m) i j) (eachGoes 0 i j)) .quarantines ≡ τ .quarantines + j
@@ -203,9 +203,9 @@ module _ (b m : ℕ) (some : 1 ≤ b) (few : b ≤ 16) where
   pub most : b * (S .l / suc m) ≡ b * 2
   most = ap (λ (x : ℕ). b * x) (div-eq-of-lt-le {k = 2} (suc m) (omega arith) (omega arith))
 
-  pub nine-told : Some (λ e. e .number ≡ 9) (reportsOf (nineParts b (suc m)) nineOutcomes)
+  pub nine-told : Some (λ e. e .number ≡ 9) (reportsOf (nineParts b (suc m)) nineCourses)
   nine-told =
       let Nine : Report → Type 0 = λ e. e .number ≡ 9 in
-      subst (λ (ps : List Part). Some Nine (reportsOf ps nineOutcomes)) (sym nine-are)
+      subst (λ (ps : List Part). Some Nine (reportsOf ps nineCourses)) (sym nine-are)
       (some-each Nine (suc m) (2 * b) last 0 (reads last (suc m) ∷ []) (wants ∷ [])
       (some-left Nine (answersOf last (suc m) wants) [] (some-right Nine (replicate m (stayed last)) (wanting last ∷ []) (inl refl))))

@@ -12,7 +12,7 @@ use Rattle.geometry.proofs.Tests.{and-left, and-right}
 use Rattle.banks.specs.Banks.{bankOf}
 use Rattle.history.specs.Tight.{Part, reads, twoSlots, threeSlots, twoFilled, threeFilled, homeParts, homePartsOver, slotParts, slotPartsOver}
 use Rattle.history.proofs.Known.{Picture, raised, placeIn, afterReads, Fits, afterMove, fresh}
-use Rattle.history.proofs.Play.{Outcome, stays, goes, Play, done, stay, go, tick, then}
+use Rattle.history.proofs.Play.{Course, stays, goes, Play, done, stay, go, tick, then}
 
 -- ---- Parts of a list in which it does not matter how the places are spread over banks: what is at most used is u in each.
 
@@ -31,11 +31,11 @@ module _ {S : Settings} {P : Picture} {r n : ℕ} (u : ℕ) (fit : (ltb r (S .n)
         acts-in = left;
       }
 
-  pub stay-at : {P′ : Picture} {ps : List Part} {fs : List Outcome} → P .estimates (placeIn S P r) + n < S .a
+  pub stay-at : {P′ : Picture} {ps : List Part} {fs : List Course} → P .estimates (placeIn S P r) + n < S .a
       → Play S (afterReads S P r n (λ c. u) (λ c. P .acts c + n)) ps fs P′ → Play S P (reads r n ∷ ps) (stays ∷ fs) P′
   stay-at low rest = stay fits low rest
 
-  pub go-at : {P′ : Picture} {ps : List Part} {fs : List Outcome} {d v : ℕ} → 0 < n → P .estimates (placeIn S P r) + n ≡ S .a
+  pub go-at : {P′ : Picture} {ps : List Part} {fs : List Course} {d v : ℕ} → 0 < n → P .estimates (placeIn S P r) + n ≡ S .a
       → raised (placeIn S P r) n (P .estimates) (S .n + P .head) < S .a → ltb (P .passed) (S .q) ≡ true
       → P .head ≡ d → P .reverse (P .head) ≡ v
       → Play S (afterMove S (afterReads S P r n (λ c. u) (λ c. P .acts c + n)) r) ps fs P′ → Play S P (reads r n ∷ ps) (goes d v ∷ fs) P′
@@ -48,7 +48,7 @@ module _ (b m : ℕ) where
   Two = twoSlots b (suc m)
 
   -- rows 0 and 1 go to slots 0 and 1
-  abbrev pub filling : List Outcome
+  abbrev pub filling : List Course
   filling = goes 0 empty ∷ goes 1 empty ∷ []
 
   abbrev pub fill : (P : Picture) × Play Two fresh (twoFilled (suc m)) filling P
@@ -60,10 +60,10 @@ module _ (b m : ℕ) where
   )
 
   -- row 2 goes to slot 0, and row 0, which is sent home, to slot 1
-  abbrev pub homeOutcomes : List Outcome
-  homeOutcomes = goes 0 0 ∷ goes 1 1 ∷ []
+  abbrev pub homeCourses : List Course
+  homeCourses = goes 0 0 ∷ goes 1 1 ∷ []
 
-  pub home-play : (P : Picture) × Play Two (fill .0) (homeParts (suc m)) homeOutcomes P
+  pub home-play : (P : Picture) × Play Two (fill .0) (homeParts (suc m)) homeCourses P
   home-play = (
     _,
     go-at 1 refl (λ c. omega arith) (λ some e. omega arith) (omega arith) (omega arith) (omega arith) (omega arith) refl refl refl
@@ -72,14 +72,14 @@ module _ (b m : ℕ) where
   )
 
   -- row 0 is read in slot 0, row 2 goes to slot 0, and then to slot 1
-  abbrev pub slotOutcomes : List Outcome
-  slotOutcomes = stays ∷ goes 0 0 ∷ goes 1 1 ∷ []
+  abbrev pub slotCourses : List Course
+  slotCourses = stays ∷ goes 0 0 ∷ goes 1 1 ∷ []
 
   -- the entries that row 0's reads take: with A = 1 it is not read, and slot 0 is a new place for row 2
   abbrev pub taken : ℕ
   taken = 1 - (1 - m)
 
-  abbrev pub slot-play : (P : Picture) × Play Two (fill .0) (slotParts (suc m)) slotOutcomes P
+  abbrev pub slot-play : (P : Picture) × Play Two (fill .0) (slotParts (suc m)) slotCourses P
   slot-play = (
     _,
     stay-at taken (rw (le-leb taken 2 (omega arith))) (λ c. omega arith) (λ some e. omega arith) (omega arith) (omega arith)
@@ -89,10 +89,10 @@ module _ (b m : ℕ) where
   )
 
   -- after the tick row 0 goes to slot 0, and then to slot 1, from which row 2 is sent home
-  abbrev pub slotOutcomesOver : List Outcome
-  slotOutcomesOver = slotOutcomes ++ goes 0 empty ∷ goes 1 2 ∷ []
+  abbrev pub slotCoursesOver : List Course
+  slotCoursesOver = slotCourses ++ goes 0 empty ∷ goes 1 2 ∷ []
 
-  pub slot-play-over : (P : Picture) × Play Two (fill .0) (slotPartsOver (suc m)) slotOutcomesOver P
+  pub slot-play-over : (P : Picture) × Play Two (fill .0) (slotPartsOver (suc m)) slotCoursesOver P
   slot-play-over = (
     _,
     then (slot-play .1)
@@ -109,7 +109,7 @@ module _ (b m : ℕ) where
   Three = threeSlots b (suc m)
 
   -- rows 0, 1 and 2 go to slots 0, 1 and 2
-  abbrev pub fillingAll : List Outcome
+  abbrev pub fillingAll : List Course
   fillingAll = goes 0 empty ∷ goes 1 empty ∷ goes 2 empty ∷ []
 
   abbrev pub fill-all : (P : Picture) × Play Three fresh (threeFilled (suc m)) fillingAll P
@@ -122,10 +122,10 @@ module _ (b m : ℕ) where
   )
 
   -- each of rows 3, 0 and 1 sends home the next, and so does each of rows 2, 3 and 0 after the tick
-  abbrev pub homeOutcomesOver : List Outcome
-  homeOutcomesOver = goes 0 0 ∷ goes 1 1 ∷ goes 2 2 ∷ goes 0 3 ∷ goes 1 0 ∷ goes 2 1 ∷ []
+  abbrev pub homeCoursesOver : List Course
+  homeCoursesOver = goes 0 0 ∷ goes 1 1 ∷ goes 2 2 ∷ goes 0 3 ∷ goes 1 0 ∷ goes 2 1 ∷ []
 
-  pub home-play-over : (P : Picture) × Play Three (fill-all .0) (homePartsOver (suc m)) homeOutcomesOver P
+  pub home-play-over : (P : Picture) × Play Three (fill-all .0) (homePartsOver (suc m)) homeCoursesOver P
   home-play-over = (
     _,
     go-at 1 refl (λ c. omega arith) (λ some e. omega arith) (omega arith) (omega arith) (omega arith) (omega arith) refl refl refl

@@ -19,7 +19,7 @@ use Rattle.history.specs.Window.{fed, ticksIn}
 use Rattle.history.specs.Tight.{Part, reads, ticks, readOf, callsOf, Some, Witness, OverOneTick}
 use Rattle.history.proofs.Known.{Picture, Known, fresh, known-set-up}
 use Rattle.history.proofs.Reading.{events-append}
-use Rattle.history.proofs.Play.{Outcome, reportsOf, Play, played, tallied, epochsOf, ticksOf, fed-all, epochs-all, ticks-all}
+use Rattle.history.proofs.Play.{Course, reportsOf, Play, played, tallied, epochsOf, ticksOf, fed-all, epochs-all, ticks-all}
 
 -- ---- settings in their ranges
 
@@ -88,7 +88,7 @@ some-told P (e ∷ es) (inr k) = inr (some-told P es k)
 
 module _ {S : Settings} {σ : State} {P : Picture} (K : Known S σ P) where
   -- the epochs
-  pub epochs-are : {P′ : Picture} {ps : List Part} {fs : List Outcome} → Play S P ps fs P′
+  pub epochs-are : {P′ : Picture} {ps : List Part} {fs : List Course} → Play S P ps fs P′
       → epochs S start start (map reportOf (events S σ (callsOf ps))) ≡ epochsOf S start start ps fs
   epochs-are {ps = ps} {fs = fs} play = ap (epochs S start start) (played play K .told-is) ∙ epochs-all S ps fs start start
 
@@ -97,7 +97,7 @@ module _ {S : Settings} {σ : State} {P : Picture} (K : Known S σ P) where
   cut-in ps qs = ap (events S σ) (calls-append ps qs) ∙ events-append S (callsOf ps) (callsOf qs) σ
 
   -- a stretch over one tick
-  pub over-tick : {P₁ P₂ : Picture} {ps qs : List Part} {fs gs : List Outcome} → Play S P ps fs P₁ → Play S P₁ qs gs P₂
+  pub over-tick : {P₁ P₂ : Picture} {ps qs : List Part} {fs gs : List Course} → Play S P ps fs P₁ → Play S P₁ qs gs P₂
       → ticksOf qs gs ≡ 1 → {p figure : ℕ}
       → openingsIn (record { first = tallied S start ps fs; last = tallied S (tallied S start ps fs) qs gs }) p ≡ figure
       → OverOneTick S p figure (events S σ (callsOf (ps ++ qs)))
@@ -119,7 +119,7 @@ module _ {S : Settings} {σ : State} {P : Picture} (K : Known S σ P) where
       }
 
   -- an answer in the second of two lists
-  pub some-answer : {P₁ P₂ : Picture} {ps qs : List Part} {fs gs : List Outcome} → Play S P ps fs P₁ → Play S P₁ qs gs P₂
+  pub some-answer : {P₁ P₂ : Picture} {ps qs : List Part} {fs gs : List Course} → Play S P ps fs P₁ → Play S P₁ qs gs P₂
       → (Q : Report → Type 0) → Some Q (reportsOf qs gs) → Some (λ e. Q (reportOf e)) (events S σ (callsOf (ps ++ qs)))
   some-answer {ps = ps} {qs = qs} play more Q s =
       let R′ = played more (played play K .known) in
