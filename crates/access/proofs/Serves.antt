@@ -2,7 +2,7 @@
 use Prim.Native.Nat.{ℕ, _+_, _<_, _≤_}
 use native.Mathlib.Omega.{arith}
 use mathlib.Core.Path.{_≡_, refl, sym, ap, _∙_, subst}
-use mathlib.Core.Logic.{inl, inr, _≢_}
+use mathlib.Core.Logic.{_≢_}
 use mathlib.Core.Bool.{Bool, true, false}
 use mathlib.Core.List.{List, []}
 use lib.Dec.{eqb}
@@ -13,16 +13,15 @@ use Rattle.geometry.specs.declared.Settings.{Settings}
 use Rattle.geometry.specs.declared.ForwardEntry.{ForwardEntry}
 use Rattle.geometry.specs.declared.PhysicalRow.{PhysicalRow}
 use Rattle.geometry.specs.Entry.{empty}
-use Rattle.geometry.proofs.Cases.{split}
 use Rattle.banks.specs.Banks.{mostBanks, withNumbers}
 use Rattle.tracking.specs.Entry.{tableAfter}
 use Rattle.row_layout.specs.Bytes.{rowBytes, written}
 use Rattle.row_layout.proofs.Laws.{length-written}
 use Rattle.engine.specs.State.{State, stateOf, Storage, storageOf, ringOf, reverseOf}
-use Rattle.engine.specs.Answer.{slotMovedTo, rowSentHome}
 use Rattle.engine.specs.Steps.{place, destination, moveInto, move, relocated}
 use Rattle.engine.specs.Ladder.{accessNumber, readOff, writeOff}
 use Rattle.engine.specs.Calls.{Accessed, accessed, read, write}
+use Rattle.engine.proofs.Moves.{into-slot, into-row}
 use Rattle.figures.specs.Promises.{AccessPromise}
 use Rattle.verdict.specs.declared.Verdict.{Verdict}
 use Rattle.access.specs.declared.Answered.{Answered}
@@ -62,13 +61,6 @@ Gone S σ r f v was t left rows counts =
     × ((left ≡ relocated S r (f .place .0) (moveInto (v .d .0) (v .held .0)) was) × Followed σ f rows counts)
 
 -- ---- any access: `after` is the store with the bytes, `filled` what the buffer is filled with
-
--- what is answered of a move into slot d, whose reverse entry is `held`
-slot-told : (d held : ℕ) → slotMovedTo (moveInto d held) ≡ d
-slot-told d held = elim (split (eqb held empty)) [ inl e ↦ rw e | inr e ↦ rw e ]
-
-row-told : (d held : ℕ) → rowSentHome (moveInto d held) ≡ held
-row-told d held = elim (split (eqb held empty)) [ inl e ↦ rw e (sym (eqb-true held empty e)) | inr e ↦ rw e ]
 
 module _ (S : Settings) (σ : State) (r : ℕ) (off : Bool) (after filled buffer : List ℕ) where
   abbrev done : Accessed
@@ -131,7 +123,7 @@ module _ (S : Settings) (σ : State) (r : ℕ) (off : Bool) (after filled buffer
           bank-small B,
           (
             rw (es, ef, ev, en, er, ec, yes, due, to, was, here, spill-then F, acts-are B (F .acted), bank-is B) refl,
-            rw (yes, due, to, was, estimate-is F, here, slot-told d held, row-told d held) refl,
+            rw (yes, due, to, was, estimate-is F, here, into-slot d held, into-row d held) refl,
             rw yes refl,
           ),
         )

@@ -2,7 +2,7 @@
 use Prim.Native.Nat.{_+_, _*_, _<_, _≤_}
 use mathlib.Core.Path.{_≡_}
 use mathlib.Core.Bool.{true}
-use borrow.Author.Tests.{ltb-true, eqb-true, eq-eqb}
+use borrow.Author.Tests.{ltb-true, lt-ltb, eqb-true, eq-eqb}
 use Rattle.geometry.specs.declared.Settings.{Settings}
 use Rattle.geometry.specs.declared.Lengths.{Lengths}
 use Rattle.geometry.specs.Ranges.{inRange}
@@ -55,6 +55,10 @@ ranges-facts S h =
 pub limit-fact : (S : Settings) → limitHolds S ≡ true → S .l < S .a * (S .k + 1)
 unfolding limitHolds
 limit-fact S h = ltb-true (S .l) (S .a * (S .k + 1)) h
+
+pub limit-holds : (S : Settings) → S .l < S .a * (S .k + 1) → limitHolds S ≡ true
+unfolding limitHolds
+limit-holds S h = lt-ltb (S .l) (S .a * (S .k + 1)) h
 
 pub record Exact (S : Settings) (lent : Lengths) : Type 0 where
   pub store : lent .store ≡ (S .n + S .q) * S .w

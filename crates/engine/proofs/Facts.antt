@@ -22,7 +22,7 @@ use Rattle.scan.specs.Scan.{some}
 use Rattle.scan.proofs.Scans.{some-none}
 use Rattle.engine.specs.State.{State, Tracker, lengthsOf, trackerOf, trackerAt, ringOf, forwardOf, reverseOf}
 use Rattle.engine.specs.Steps.{place, moves, skipped, destinationFrom, destination, rise}
-use Rattle.engine.specs.Ladder.{stops, settingsNumber, fitNumber, ringUnsound, trackerUnsound, trackersUnsound, controlUnsound, pointsBack, rowNumber, quarantineNumber, lateNumber, setUpNumber, tickNumber, inspectNumber, accessNumber}
+use Rattle.engine.specs.Ladder.{settingsNumber, fitNumber, ringUnsound, trackerUnsound, trackersUnsound, controlUnsound, pointsBack, rowNumber, quarantineNumber, lateNumber, setUpNumber, tickNumber, inspectNumber, accessNumber}
 use Rattle.engine.proofs.Rungs.{pass, unmet, passes, goes-by, halts, goes-on, applies, reach, only, past, stops-all, ladder-all, if-all, either}
 
 -- a row of the table whose condition is that a test fails
@@ -333,29 +333,25 @@ module _ (S : Settings) (σ : State) (r : ℕ) (off : Bool) where
         target = λ d. quarantine-facts (q d) .1;
       }
 
-  pub accepts : Accepted S σ r off → accessNumber S σ r off ≡ 0
+  -- past 8 the number is that of the quarantine, if the row is to be quarantined
+  past-8 : Reached S σ r off → accessNumber S σ r off ≡ cond (moves S σ r) quarantine 0
   unfolding accessNumber lateNumber quarantine
-  accepts A =
-      let R : Reached S σ r off = A .reached in
+  past-8 R =
       let acts : ℕ = trackerAt S σ (place S σ r) .acts in
       let acts-more : acts < S .l = R .more in
-      passes (tick-passes S σ (R .fit) (R .control))
-      (passes (row-passes S (σ .reverse) (forwardOf σ r) r off (R .row-in) (R .span-in) (R .pointers))
-      (passes (goes-by 8 (ne-eqb acts (S .l) (λ e. omega arith)))
-      (if-passes (moves S σ r) quarantine (λ d. quarantine-passes (A .room d) (A .target d)))))
-
-  pub refuses : Wanting S σ r off → accessNumber S σ r off ≡ 9
-  unfolding accessNumber lateNumber quarantineNumber
-  refuses W =
-      let R : Reached S σ r off = W .reached in
-      let acts : ℕ = trackerAt S σ (place S σ r) .acts in
-      let acts-more : acts < S .l = R .more in
-      let full : stops (ltb (S .q) (σ .control .passed + rise S σ r)) 9 ≡ 9 =
-      applies 9 (lt-ltb (S .q) (σ .control .passed + rise S σ r) (W .full)) in
       goes-on _ (tick-passes S σ (R .fit) (R .control))
       ∙ goes-on _ (row-passes S (σ .reverse) (forwardOf σ r) r off (R .row-in) (R .span-in) (R .pointers))
       ∙ goes-on _ (goes-by 8 (ne-eqb acts (S .l) (λ e. omega arith)))
-      ∙ rw (W .moving, full) (halts _ (λ z. omega arith))
+
+  pub accepts : Accepted S σ r off → accessNumber S σ r off ≡ 0
+  accepts A = past-8 (A .reached) ∙ if-passes (moves S σ r) quarantine (λ d. quarantine-passes (A .room d) (A .target d))
+
+  quarantine-full : S .q < σ .control .passed + rise S σ r → quarantine ≡ 9
+  unfolding quarantineNumber quarantine
+  quarantine-full full = rw (applies 9 (lt-ltb (S .q) (σ .control .passed + rise S σ r) full)) (halts _ (λ z. omega arith))
+
+  pub refuses : Wanting S σ r off → accessNumber S σ r off ≡ 9
+  refuses W = past-8 (W .reached) ∙ rw (W .moving) (quarantine-full (W .full))
 
   pub wanting : accessNumber S σ r off ≡ 9 → Wanting S σ r off
   unfolding accessNumber lateNumber quarantine

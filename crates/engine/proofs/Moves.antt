@@ -20,9 +20,9 @@ use Rattle.row_layout.specs.Bytes.{copied}
 use Rattle.row_layout.proofs.Laws.{byteAt, length-copied, copied-to, copied-other}
 use Rattle.engine.specs.declared.Move.{Move}
 use Rattle.engine.specs.declared.Move.the-variants.{Stayed, ToSlot, OverSlot}
-use Rattle.engine.specs.Answer.{slotMovedTo}
+use Rattle.engine.specs.Answer.{slotMovedTo, rowSentHome}
 use Rattle.engine.specs.State.{State, Tracker, lengthsOf, trackerAt, forwardOf, reverseOf}
-use Rattle.engine.specs.Steps.{place, moves, skips, skipped, destinationFrom, destination, riseTo, rise, move, left, settled}
+use Rattle.engine.specs.Steps.{place, moves, skips, skipped, destinationFrom, destination, riseTo, rise, moveInto, move, left, settled}
 use Rattle.engine.proofs.GoneBy.{Slide, next-in}
 use Rattle.engine.proofs.Ahead.{distance, ahead, goes-past}
 use Rattle.engine.proofs.Trackers.{CountingAt, TracksAt, counted-rows-long, counted-counts-long}
@@ -46,6 +46,13 @@ plan S σ r =
       ]
       | inr e ↦ rw e (rests e)
     ]
+
+-- what is answered of a move into slot d, whose reverse entry is `held`
+pub into-slot : (d held : ℕ) → slotMovedTo (moveInto d held) ≡ d
+into-slot d held = elim (split (eqb held empty)) [ inl e ↦ rw e | inr e ↦ rw e ]
+
+pub into-row : (d held : ℕ) → rowSentHome (moveInto d held) ≡ held
+into-row d held = elim (split (eqb held empty)) [ inl e ↦ rw e (sym (eqb-true held empty e)) | inr e ↦ rw e ]
 
 -- ---- the head
 

@@ -1,11 +1,11 @@
 -- Laws of the slots that the head skips, for any test of a slot. Assumes nothing.
 use Prim.Native.Nat.{ℕ, zero, suc, _+_, _%_, _<_, _≤_, zero-le, suc-le-suc}
-use native.Mathlib.Nat.{le-of-suc-le-suc, not-suc-le-zero, mod-add-mod}
+use native.Mathlib.Nat.{le-refl, le-of-suc-le-suc, not-suc-le-zero, mod-eq-of-lt, mod-add-mod}
 use native.Mathlib.Omega.{arith}
 use mathlib.Core.Path.{_≡_, refl, sym, ap, _∙_}
 use mathlib.Core.Logic.{inl, inr}
 use mathlib.Core.Bool.{Bool, true, false}
-use Rattle.geometry.proofs.Cases.{split}
+use Rattle.geometry.proofs.Cases.{split, lt?}
 use Rattle.engine.specs.Steps.{skippedOf}
 use Rattle.engine.proofs.GoneBy.{next-in}
 
@@ -55,6 +55,20 @@ module _ (skip : ℕ → Bool) (q : ℕ) where
       elim (split (skip s)) [
         | inl e ↦ rw e (suc-le-suc (cut-full k m ((s + 1) % q) (le-of-suc-le-suc few) (le-of-suc-le-suc (rw e at h))))
         | inr e ↦ absurd (not-suc-le-zero (rw e at h))
+      ]
+
+  -- j slots from s on are skipped at least, where each of them is to be
+  pub skip-all : (j k s : ℕ) → j ≤ k → s + j ≤ q → ((x : ℕ) → s ≤ x → x < s + j → skip x ≡ true) → j ≤ skippedOf skip q k s
+  skip-all zero k s few inside all = zero-le
+  skip-all (suc j) zero s few inside all = absurd (not-suc-le-zero few)
+  skip-all (suc j) (suc k) s few inside all =
+      let here = skip-on k s (all s (le-refl s) (omega arith)) in
+      elim (lt? (s + 1) q) [
+        | inl b ↦
+            let next : (s + 1) % q ≡ s + 1 = mod-eq-of-lt b in
+            let on = skip-all j k (s + 1) (omega arith) (omega arith) (λ x low high. all x (omega arith) (omega arith)) in
+            omega (arith, here, ap (skippedOf skip q k) next)
+        | inr b ↦ omega (arith, here)
       ]
 
 -- only the answers of the test matter

@@ -181,6 +181,10 @@ tracker-new S σ p some =
       zero-there (S .b) (σ .control .acts) c inside,
     )
 
+-- what holds of a new tracker holds of each
+pub all-new : (S : Settings) (σ : State) → 1 ≤ S .b → (P : Tracker → Type 0) → P (newTracker (S .k)) → (p : ℕ) → P (trackerAt S (ticked S σ) p)
+all-new S σ some P h p = subst P (sym (tracker-new S σ p some)) h
+
 -- set-up leaves what a tick would leave
 zero-again : (b n : ℕ) → b ≤ n → zeroBelow b (replicate n 0) ≡ replicate n 0
 unfolding zeroBelow

@@ -3,7 +3,7 @@ use Prim.Native.Nat.{ℕ, _≤_}
 use mathlib.Core.Path.{_≡_, refl, sym, _∙_}
 use mathlib.Core.Bool.{Bool, true, false, not, _&&_, _||_, true≢false, false≢true}
 use lib.Dec.{leb}
-use borrow.Author.Tests.{leb-true, not-true, not-false}
+use borrow.Author.Tests.{leb-true, le-leb, not-true, not-false}
 use Rattle.geometry.specs.Ranges.{inRange}
 
 -- a call ensures that its result is the test t, and the branch on `!result` was taken: t failed
@@ -35,3 +35,6 @@ low least most x e = leb-true least x (and-left (leb least x) (leb x most) e)
 
 pub high : (least most x : ℕ) → inRange least most x ≡ true → x ≤ most
 high least most x e = leb-true x most (and-right (leb least x) (leb x most) e)
+
+pub within : (least most x : ℕ) → least ≤ x → x ≤ most → inRange least most x ≡ true
+within least most x l h = rw (le-leb least x l, le-leb x most h)

@@ -34,7 +34,7 @@ tallyAfter S τ r m = tally.afterAccess S τ r (slotMovedTo m) (rowSentHome m)
 
 module _ (S : Settings) (σ : State) (τ₀ τ : tally.Tally) (I : Inv S σ τ₀ τ) (r : ℕ) (row-in : r < S .n)
     (more : trackerAt S σ (place S σ r) .acts < S .l) where
-  T : TracksAt S σ r
+  pub T : TracksAt S σ r
   T = tracks-access S σ (I .sound) r row-in (limit-fact S (I .limit)) more (I .counting (place S σ r))
 
   -- the quarantines of the epoch, this access included
@@ -56,7 +56,7 @@ module _ (S : Settings) (σ : State) (τ₀ τ : tally.Tally) (I : Inv S σ τ�
   -- ---- the slots that the head skips
 
   -- of an access that moves its row: those that are worn after step 2
-  skip-is : moves S σ r ≡ true → (store : List ℕ) (m : Move) (s : ℕ) → s < S .q → skips S σ r s ≡ wornSlot S (settled S σ r store m) s
+  pub skip-is : moves S σ r ≡ true → (store : List ℕ) (m : Move) (s : ℕ) → s < S .q → skips S σ r s ≡ wornSlot S (settled S σ r store m) s
   skip-is e store m s b =
       skips-worn S σ r (I .sound) (limit-fact S (I .limit)) counting-then acts-then e s b
 

@@ -1,21 +1,21 @@
 -- A good access is accepted as the first call after a tick, in every state with sound tables. Assumes nothing.
 use Prim.Native.Nat.{ℕ, _+_, _*_, _<_, _≤_}
 use native.Mathlib.Omega.{arith}
-use mathlib.Core.Path.{_≡_, refl, sym, _∙_, subst}
+use mathlib.Core.Path.{_≡_, refl, sym, _∙_}
 use mathlib.Core.Logic.{inl, inr}
 use mathlib.Core.Bool.{Bool, true, false}
 use Rattle.geometry.specs.declared.Settings.{Settings}
 use Rattle.geometry.proofs.Cases.{lt?}
 use Rattle.tracking.proofs.View.{quotients-new}
 use Rattle.conditions.proofs.Facts.{ranges-facts, lengths-facts}
-use Rattle.engine.specs.State.{State, Tracker, lengthsOf, trackerAt}
+use Rattle.engine.specs.State.{State, lengthsOf, trackerAt}
 use Rattle.engine.specs.Steps.{place, moves, rise}
 use Rattle.engine.specs.Ladder.{tickNumber, accessNumber}
 use Rattle.engine.specs.Calls as calls
 use Rattle.engine.specs.Tables.{Inverse}
 use Rattle.engine.proofs.Facts.{Fit, steady, tick-facts, wanting}
 use Rattle.engine.proofs.Pointers.{Sound}
-use Rattle.engine.proofs.Trackers.{tracker-new}
+use Rattle.engine.proofs.Trackers.{all-new}
 use Rattle.history.specs.Tally.{Tally}
 use Rattle.history.specs.Run.{Call, access, tick, inspect, rowOf}
 use Rattle.history.specs.Demand2.{GoodAccess, NineIsGood, AcceptedAfterTick}
@@ -44,8 +44,7 @@ module _ (S : Settings) (σ : State) (inverse : Inverse S σ) (tick-0 : tickNumb
 
   -- every bank has accesses left
   more-then : (r : ℕ) → trackerAt S (calls.ticked S σ) (place S (calls.ticked S σ) r) .acts < S .l
-  more-then r =
-      subst (λ (t : Tracker). t .acts < S .l) (sym (tracker-new S σ (place S (calls.ticked S σ) r) (sound .ranges .b-low))) (sound .ranges .l-low)
+  more-then r = all-new S σ (sound .ranges .b-low) (λ t. t .acts < S .l) (sound .ranges .l-low) (place S (calls.ticked S σ) r)
 
   -- there is room for a move
   has-room : (r : ℕ) → r < S .n → moves S (calls.ticked S σ) r ≡ true → 0 + rise S (calls.ticked S σ) r ≤ S .q

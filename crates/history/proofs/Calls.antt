@@ -33,7 +33,7 @@ use Rattle.history.specs.Run.{Step, step, eventOf, OfAccepted, reportOf}
 use Rattle.history.specs.Demand3.{Bounded, AnswersPlace}
 use Rattle.history.proofs.Groups.{spanOff, storeBy, span-good, ladder, at-9, step-cases, of-accepted}
 use Rattle.history.proofs.Openings.{here, home-bound, home-new, slot-bound, slot-new}
-use Rattle.engine.proofs.Trackers.{CountingBy, estimateFor, estimate, newTracker, zero-long, tracker-new, quotients-most}
+use Rattle.engine.proofs.Trackers.{CountingBy, estimateFor, estimate, zero-long, all-new, quotients-most}
 use Rattle.history.proofs.Charge.{occupied-is, charge-most}
 use Rattle.history.proofs.Invariant.{wornSlot, Inv}
 use Rattle.history.proofs.Access.{tallyAfter, inv-access, never-wanting}
@@ -45,18 +45,16 @@ pub inv-new : (S : Settings) (σ : State) (τ : tally.Tally) → rangesHold S �
     → ((x : ℕ) → x < S .n → τ .place x ≡ place S σ x) → Inv S (calls.ticked S σ) τ τ
 inv-new S σ τ ranges limit sound head-in places =
     let pos : 0 < S .a = sound .ranges .a-low in
-    -- what holds of a new tracker holds of each
-    let new : (p : ℕ) (P : Tracker → Type 0) → P (newTracker (S .k)) → P (trackerAt S (calls.ticked S σ) p) =
-    λ p P h. subst P (sym (tracker-new S σ p (sound .ranges .b-low))) h in
-    let none : (p : ℕ) → estimate S (calls.ticked S σ) p ≡ 0 = λ p. new p (λ t. estimateFor t p ≡ 0) (estimate-new (S .k) p) in
+    let some : 1 ≤ S .b = sound .ranges .b-low in
+    let none : (p : ℕ) → estimate S (calls.ticked S σ) p ≡ 0 = λ p. all-new S σ some (λ t. estimateFor t p ≡ 0) (estimate-new (S .k) p) p in
     record {
       ranges = ranges;
       limit = limit;
       sound = sound;
       head-in = head-in;
       passed-in = zero-le;
-      acts-in = λ p. new p (λ t. t .acts ≤ S .l) zero-le;
-      counting = λ p. new p (CountingBy (S .k)) (counting-new (S .k));
+      acts-in = all-new S σ some (λ t. t .acts ≤ S .l) zero-le;
+      counting = all-new S σ some (CountingBy (S .k)) (counting-new (S .k));
       quarantines = omega (arith, quotients-new (S .a) (S .b * S .k));
       passed-few =
           omega (arith, ahead-none (S .q) (σ .control .head) 0 (wornSlot S (calls.ticked S σ)) (λ s b. rw (none (S .n + s)) (lt-leb (S .a) 0 pos)));
@@ -192,14 +190,14 @@ module _ (S : Settings) (σ : State) (τ₀ τ : tally.Tally) (I : Inv S σ τ�
 
   -- an access of a row in its range, with a span that is not off, and accesses left: it is past 1 to 8,
   module _ (r : ℕ) (off : Bool) (row-in : r < S .n) (span-in : off ≡ false) (more : trackerAt S σ (place S σ r) .acts < S .l) where
-    pub past-8 : Reached S σ r off
-    past-8 =
+    pub is-reached : Reached S σ r off
+    is-reached =
         let f = tick-facts S σ tick-passed in
         record { fit = f .0; control = f .1; row-in = row-in; span-in = span-in; pointers = row-sure r row-in; more = more }
 
     -- and accepted, where there is room for a move
     pub access-0 : (moves S σ r ≡ true → σ .control .passed + rise S σ r ≤ S .q) → accessNumber S σ r off ≡ 0
-    access-0 room = accepts S σ r off (record { reached = past-8; room = room; target = λ m. target-sure r })
+    access-0 room = accepts S σ r off (record { reached = is-reached; room = room; target = λ m. target-sure r })
 
   -- P holds of 0, 5, 6, 8 and 9
   module _ (P : ℕ → Type 0) (p0 : P 0) (p5 : P 5) (p6 : P 6) (p8 : P 8) (p9 : P 9) where

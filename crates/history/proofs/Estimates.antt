@@ -22,7 +22,7 @@ use Rattle.engine.specs.Steps.{place, tracked, trackerAfter, counted, move, set
 use Rattle.engine.specs.Calls as calls
 use Rattle.engine.proofs.Facts.{accepted}
 use Rattle.engine.proofs.Pointers.{marks-none, place-in}
-use Rattle.engine.proofs.Trackers.{estimateFor, estimate, TracksAt, tracker-same, tracker-new, cleared-new}
+use Rattle.engine.proofs.Trackers.{estimateFor, estimate, TracksAt, tracker-same, all-new}
 use Rattle.engine.proofs.Counting.{Estimated, estimated}
 use Rattle.engine.proofs.Moves.{tracks-access, slot-told}
 use Rattle.history.specs.Tally as tally
@@ -33,7 +33,7 @@ use Rattle.history.proofs.Groups.{acceptedStep, refusedStep, ladder, st
 use Rattle.history.proofs.Invariant.{Inv}
 use Rattle.history.proofs.Openings.{hit-same, hit-other}
 use Rattle.history.proofs.Chain.{Chain, chain-of, idle-observe}
-use Rattle.history.proofs.History.{set-up-state, inv-set-up, inv-chain, followed}
+use Rattle.history.proofs.History.{set-up-new, inv-set-up, inv-chain, followed}
 
 -- what was observed of a place against the tracker's estimate of it
 record Counted (a estimate spill accesses latest since : ℕ) : Type 0 where
@@ -52,8 +52,8 @@ Watched S σ o = (p : ℕ) → p ≢ empty
 
 watched-new : (S : Settings) → 1 ≤ S .b → (σ : State) → Watched S (calls.ticked S σ) unobserved
 watched-new S some σ p n =
-    subst (λ (t : Tracker). Counted (S .a) (estimateFor t p) (t .spill) 0 0 0) (sym (tracker-new S σ p some))
-    (rw (estimate-new (S .k) p) (record { most = omega arith; least = omega arith; last = omega arith; near = inl refl }))
+    all-new S σ some (λ t. Counted (S .a) (estimateFor t p) (t .spill) 0 0 0)
+    (rw (estimate-new (S .k) p) (record { most = omega arith; least = omega arith; last = omega arith; near = inl refl })) p
 
 -- ---- an accepted access
 
@@ -203,7 +203,8 @@ pub concludes : (S : Settings) (blank : State) → (calls.setUp S blank) .number
 concludes S blank z {σ} {es} chain c =
     let I = inv-set-up S blank z in
     let R : Ranges S = I .sound .ranges in
-    let begun : Watched S ((calls.setUp S blank) .state) unobserved = rw (set-up-state S blank z) (subst (λ (σ′ : State). Watched S σ′ unobserved) (cleared-new S blank (R .b-high)) (watched-new S (R .b-low) (calls.cleared S blank))) in
+    let begun : Watched S ((calls.setUp S blank) .state) unobserved =
+    subst (λ (σ′ : State). Watched S σ′ unobserved) (set-up-new S blank z) (watched-new S (R .b-low) (calls.cleared S blank)) in
     let J = inv-chain S chain tally.start tally.start I in
     concluded-step S σ (J .0) (J .1) (J .2) (observed unobserved es)
     (followed S observe observed (λ o. refl) (λ o e es. refl) (λ e o. idle-observe o) (Watched S) (watched-step S) chain tally.start tally.start I unobserved begun) c

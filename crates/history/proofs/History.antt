@@ -30,6 +30,11 @@ pub set-up-state : (S : Settings) (σ : State) → (calls.setUp S σ) .number �
 unfolding calls.setUp calls.noted
 set-up-state S σ z = rw (eq-eqb (setUpNumber S σ) 0 z)
 
+-- it is what a tick would leave
+pub set-up-new : (S : Settings) (σ : State) → (calls.setUp S σ) .number ≡ 0 → calls.ticked S (calls.cleared S σ) ≡ (calls.setUp S σ) .state
+unfolding calls.setUp calls.noted
+set-up-new S σ z = cleared-new S σ (ranges-facts S (fit S σ z .ranges) .b-high) ∙ sym (set-up-state S σ z)
+
 inv-cleared : (S : Settings) (σ : State) → setUpNumber S σ ≡ 0 → Inv S (calls.cleared S σ) tally.start tally.start
 inv-cleared S σ z =
     let f : Fit S σ = fit S σ z in

@@ -2,7 +2,7 @@
 -- Assumes nothing.
 use Prim.Native.Nat.{ℕ, _+_, _%_, _<_, _≤_, zero-le}
 use native.Mathlib.Omega.{arith}
-use mathlib.Core.Path.{_≡_, refl, sym, _∙_, subst}
+use mathlib.Core.Path.{_≡_, refl, _∙_, subst}
 use mathlib.Core.Bool.{cond}
 use lib.Dec.{eqb}
 use lib.ListN.{getD-replicate}
@@ -11,13 +11,13 @@ use Rattle.geometry.specs.Entry.{empty}
 use Rattle.banks.specs.Banks.{bankOf}
 use Rattle.tracking.proofs.Spare.{busy, busy-new}
 use Rattle.tracking.proofs.View.{estimate-new}
-use Rattle.engine.specs.State.{State, Tracker, trackerAt, forwardOf, reverseOf}
+use Rattle.engine.specs.State.{State, trackerAt, forwardOf, reverseOf}
 use Rattle.engine.specs.Steps.{placeBy}
 use Rattle.engine.specs.Calls.{setUp, cleared, ticked}
-use Rattle.engine.proofs.Trackers.{estimateFor, estimate, newTracker, tracker-new, cleared-new}
+use Rattle.engine.proofs.Trackers.{estimateFor, estimate, all-new}
 use Rattle.history.specs.Tally.{Tally, start}
 use Rattle.history.proofs.Invariant.{Inv}
-use Rattle.history.proofs.History.{set-up-state, inv-set-up}
+use Rattle.history.proofs.History.{set-up-new, inv-set-up}
 
 -- forward and reverse entries; `head` and `passed`; the estimate of every place; of each bank, at most how many entries have
 -- counted, and how many accesses
@@ -56,8 +56,8 @@ pub record Known (S : Settings) (σ : State) (P : Picture) : Type 0 where
 -- ---- how a picture changes
 
 -- f with n more at p
-abbrev pub raised : ℕ → ℕ → (ℕ → ℕ) → ℕ → ℕ
-raised p n f = λ x. cond (eqb x p) (f x + n) (f x)
+abbrev pub plusAt : ℕ → ℕ → (ℕ → ℕ) → ℕ → ℕ
+plusAt p n f = λ x. cond (eqb x p) (f x + n) (f x)
 
 abbrev pub placeIn : Settings → Picture → ℕ → ℕ
 placeIn S P r = placeBy S (P .forward r) r
@@ -76,7 +76,7 @@ recounted P estimates used acts =
 
 -- row r is read n times and stays; used, acts: at most the entries that have counted then, and the accesses
 abbrev pub afterReads : Settings → Picture → ℕ → ℕ → (ℕ → ℕ) → (ℕ → ℕ) → Picture
-afterReads S P r n used acts = recounted P (raised (placeIn S P r) n (P .estimates)) used acts
+afterReads S P r n used acts = recounted P (plusAt (placeIn S P r) n (P .estimates)) used acts
 
 -- the bank of its place has an entry for it, and accesses left
 pub record Fits (S : Settings) (P : Picture) (r n : ℕ) (used acts : ℕ → ℕ) : Type 0 where
@@ -89,8 +89,8 @@ pub record Fits (S : Settings) (P : Picture) (r n : ℕ) (used acts : ℕ → �
   pub acts-in : acts (bankOf S (placeIn S P r)) ≤ S .l
 
 -- row r goes to slot `head`
-abbrev pub afterMove : Settings → Picture → ℕ → Picture
-afterMove S P r =
+abbrev pub afterQuarantine : Settings → Picture → ℕ → Picture
+afterQuarantine S P r =
     record {
       forward = λ x. cond (eqb x r) (P .head) (cond (eqb (P .forward x) (P .head)) empty (P .forward x));
       reverse = λ s. cond (eqb s (P .head)) r (cond (eqb s (P .forward r)) empty (P .reverse s));
@@ -117,13 +117,11 @@ afterTick P =
 -- the trackers of a new epoch
 counts-new : (S : Settings) (σ : State) → 1 ≤ S .b → Counts S (ticked S σ) (λ x. 0) (λ c. 0) (λ c. 0)
 counts-new S σ some =
-    let new : (x : ℕ) (P : Tracker → Type 0) → P (newTracker (S .k)) → P (trackerAt S (ticked S σ) x) =
-    λ x P h. subst P (sym (tracker-new S σ x some)) h in
     record {
-      estimate-is = λ x b. new x (λ t. estimateFor t x ≡ 0) (estimate-new (S .k) x);
-      spill-0 = λ x. new x (λ t. t .spill ≡ 0) refl;
-      busy-most = λ x. new x (λ t. busy (t .counts) ≤ 0) (omega (arith, busy-new (S .k)));
-      acts-most = λ x. new x (λ t. t .acts ≤ 0) zero-le;
+      estimate-is = λ x b. all-new S σ some (λ t. estimateFor t x ≡ 0) (estimate-new (S .k) x) x;
+      spill-0 = all-new S σ some (λ t. t .spill ≡ 0) refl;
+      busy-most = all-new S σ some (λ t. busy (t .counts) ≤ 0) (omega (arith, busy-new (S .k)));
+      acts-most = all-new S σ some (λ t. t .acts ≤ 0) zero-le;
     }
 
 pub shown-tick : (S : Settings) (σ : State) (P : Picture) → Known S σ P → Shown S (ticked S σ) (afterTick P)
@@ -153,14 +151,12 @@ fresh =
 pub known-set-up : (S : Settings) (σ : State) → S .w ≡ 1 → (setUp S σ) .number ≡ 0 → Known S ((setUp S σ) .state) fresh
 known-set-up S σ narrow z =
     let I = inv-set-up S σ z in
-    let new : ticked S (cleared S σ) ≡ (setUp S σ) .state =
-    cleared-new S σ (I .sound .ranges .b-high) ∙ sym (set-up-state S σ z) in
     record {
       narrow = narrow;
       τ₀ = start;
       τ = start;
       inv = I;
-      shown = subst (λ (σ′ : State). Shown S σ′ fresh) new
+      shown = subst (λ (σ′ : State). Shown S σ′ fresh) (set-up-new S σ z)
           (record {
             forward-is = λ x b. getD-replicate (S .n) x empty empty b;
             reverse-is = λ s b. getD-replicate (S .q) s empty empty b;
@@ -170,7 +166,7 @@ known-set-up S σ narrow z =
           });
     }
 
--- ---- the same memory with other counts: estimates that are the same, and no less of what is at most
+-- ---- the same memory told by the same estimates, and by bounds that are no lower
 
 pub known-again : {S : Settings} {σ : State} {P : Picture} {estimates used acts : ℕ → ℕ} → Known S σ P
     → ((x : ℕ) → x < S .n + S .q → P .estimates x ≡ estimates x) → ((c : ℕ) → P .used c ≤ used c) → ((c : ℕ) → P .acts c ≤ acts c)

@@ -14,7 +14,7 @@ use Rattle.banks.specs.Banks.{bankOf}
 use Rattle.tracking.proofs.Tracking.{one-if}
 use Rattle.engine.specs.Steps.{placeBy}
 use Rattle.history.specs.Tight.{oneShort, eachRead}
-use Rattle.history.proofs.Known.{Picture, raised, placeIn, afterReads, Fits, afterMove}
+use Rattle.history.proofs.Known.{Picture, plusAt, placeIn, afterReads, Fits, afterQuarantine}
 use Rattle.history.proofs.Play.{Course, goes, Play, done, go}
 
 -- row r and those after it go to slot h + r and those after it, which are empty
@@ -24,7 +24,7 @@ eachGoes h r (suc m) = goes (h + r) empty ∷ eachGoes h (suc r) m
 
 -- ---- which bank
 
-module _ (b : ℕ) (some : 1 ≤ b) where
+module _ (b : ℕ) where
   -- of the rows below 2b, two in each bank
   below : (x : ℕ) → x < 2 * b → ((x < b) × (x % b ≡ x)) ⊎ (x % b + b ≡ x)
   below x low =
@@ -88,66 +88,73 @@ module _ (b : ℕ) (some : 1 ≤ b) where
   unfolding share
   share-most i c = omega (arith, one-most c i, one-most (c + b) i)
 
--- ---- an epoch in which row x, below 2b, is read at place g + x (entry x: its forward entry), and goes to slot h + x
+-- ---- an epoch in which the rows below 2b go to slots, one after the other
 
-module _ (b m : ℕ) (some : 1 ≤ b) (few : b ≤ 16) (h g : ℕ) (entry : ℕ → ℕ)
-    (place-is : (x : ℕ) → x < 2 * b → placeBy (oneShort b (suc m)) (entry x) x ≡ g + x)
-    (bank-is : (x : ℕ) → (g + x) % b ≡ x % b)
-    (apart : (x s : ℕ) → x < 2 * b → h ≤ s → s < 4 * b → entry x ≢ s)
-    (ahead : g + 2 * b ≤ 4 * b + h) where
+-- row x is read at place `from` + x (entry x: its forward entry) and goes to slot `to` + x
+pub record Round (b m : ℕ) : Type 0 where
+  pub from : ℕ
+  pub to : ℕ
+  pub entry : ℕ → ℕ
+  pub place-is : (x : ℕ) → x < 2 * b → placeBy (oneShort b (suc m)) (entry x) x ≡ from + x
+  pub bank-is : (x : ℕ) → (from + x) % b ≡ x % b
+  -- no row is in one of those slots, and the places lie before them
+  pub apart : (x s : ℕ) → x < 2 * b → to ≤ s → s < 4 * b → entry x ≢ s
+  pub before : from + 2 * b ≤ 4 * b + to
+
+module _ {b m : ℕ} (W : Round b m) where
   abbrev S : Settings
   S = oneShort b (suc m)
 
   -- when the rows below i have gone
   pub record Stage (i : ℕ) (P : Picture) : Type 0 where
-    pub head : P .head ≡ (h + i) % S .q
+    pub head : P .head ≡ (W .to + i) % S .q
     pub passed : P .passed ≡ i
-    pub went : (x : ℕ) → x < i → P .forward x ≡ h + x
-    pub rest : (x : ℕ) → i ≤ x → x < 2 * b → P .forward x ≡ entry x
-    pub vacant : (s : ℕ) → h + i ≤ s → P .reverse s ≡ empty
-    pub worn : (x : ℕ) → x < i → P .estimates (g + x) ≡ suc m
-    pub cold : (x : ℕ) → g + i ≤ x → P .estimates x ≡ 0
-    pub used : (c : ℕ) → P .used c ≡ share b some i c
-    pub acts : (c : ℕ) → P .acts c ≡ share b some i c * suc m
+    pub went : (x : ℕ) → x < i → P .forward x ≡ W .to + x
+    pub rest : (x : ℕ) → i ≤ x → x < 2 * b → P .forward x ≡ W .entry x
+    pub vacant : (s : ℕ) → W .to + i ≤ s → P .reverse s ≡ empty
+    pub worn : (x : ℕ) → x < i → P .estimates (W .from + x) ≡ suc m
+    pub cold : (x : ℕ) → W .from + i ≤ x → P .estimates x ≡ 0
+    pub used : (c : ℕ) → P .used c ≡ share b i c
+    pub acts : (c : ℕ) → P .acts c ≡ share b i c * suc m
 
   module _ (i : ℕ) {P : Picture} (T : Stage i P) (low : i < 2 * b) where
-    at : placeIn S P i ≡ g + i
-    at = ap (λ (e : ℕ). placeBy S e i) (T .rest i (le-refl i) low) ∙ place-is i low
+    at : placeIn S P i ≡ W .from + i
+    at = ap (λ (e : ℕ). placeBy S e i) (T .rest i (le-refl i) low) ∙ W .place-is i low
 
     bank-at : bankOf S (placeIn S P i) ≡ i % b
     unfolding bankOf
-    bank-at = ap (λ (x : ℕ). x % b) at ∙ bank-is i
+    bank-at = ap (λ (x : ℕ). x % b) at ∙ W .bank-is i
 
-    more : share b some (suc i) (bankOf S (placeIn S P i)) ≡ suc (share b some i (bankOf S (placeIn S P i)))
-    more = subst (λ (c : ℕ). share b some (suc i) c ≡ suc (share b some i c)) (sym bank-at) (share-more b some i low)
+    more : share b (suc i) (bankOf S (placeIn S P i)) ≡ suc (share b i (bankOf S (placeIn S P i)))
+    more = subst (λ (c : ℕ). share b (suc i) c ≡ suc (share b i c)) (sym bank-at) (share-more b i low)
 
-    pub fits : Fits S P i (suc m) (share b some (suc i)) (λ c. share b some (suc i) c * suc m)
+    pub fits : Fits S P i (suc m) (share b (suc i)) (λ c. share b (suc i) c * suc m)
     fits =
         let c : ℕ = bankOf S (placeIn S P i) in
         record {
           row-in = omega arith;
-          used-kept = λ c. omega (arith, T .used c, share-grows b some i c);
+          used-kept = λ c. omega (arith, T .used c, share-grows b i c);
           used-more = λ pos e. omega (arith, T .used c, more);
-          used-in = share-most b some (suc i) c;
-          acts-kept = λ c. omega (arith, T .acts c, mul-le-mul-right (suc m) (share-grows b some i c));
+          used-in = share-most b (suc i) c;
+          acts-kept = λ c. omega (arith, T .acts c, mul-le-mul-right (suc m) (share-grows b i c));
           acts-more =
-              let next : share b some (suc i) c * suc m ≡ share b some i c * suc m + suc m =
-              ap (λ (u : ℕ). u * suc m) more ∙ suc-mul (share b some i c) (suc m) in
+              let next : share b (suc i) c * suc m ≡ share b i c * suc m + suc m =
+              ap (λ (u : ℕ). u * suc m) more ∙ suc-mul (share b i c) (suc m) in
               omega (arith, T .acts c);
-          acts-in = mul-le-mul-right (suc m) (share-most b some (suc i) c);
+          acts-in = mul-le-mul-right (suc m) (share-most b (suc i) c);
         }
 
     pub due : P .estimates (placeIn S P i) + suc m ≡ suc m
-    due = omega (arith, ap (P .estimates) at, T .cold (g + i) (le-refl (g + i)))
+    due = omega (arith, ap (P .estimates) at, T .cold (W .from + i) (le-refl (W .from + i)))
 
-    module _ (room : h + i < S .q) where
-      head-is : P .head ≡ h + i
+    module _ (room : W .to + i < S .q) where
+      head-is : P .head ≡ W .to + i
       head-is = T .head ∙ mod-eq-of-lt room
 
       abbrev next : Picture
-      next = afterMove S (afterReads S P i (suc m) (share b some (suc i)) (λ c. share b some (suc i) c * suc m)) i
+      next = afterQuarantine S (afterReads S P i (suc m) (share b (suc i)) (λ c. share b (suc i) c * suc m)) i
 
-      free : raised (placeIn S P i) (suc m) (P .estimates) (S .n + P .head) < suc m
+      free : plusAt (placeIn S P i) (suc m) (P .estimates) (S .n + P .head) < suc m
       free =
           rw (ne-eqb (S .n + P .head) (placeIn S P i) (λ e. omega (arith, head-is, at)))
           (omega (arith, T .cold (S .n + P .head) (omega (arith, head-is))))
@@ -155,7 +162,7 @@ module _ (b m : ℕ) (some : 1 ≤ b) (few : b ≤ 16) (h g : ℕ) (entry : ℕ 
       goes-on : Stage (suc i) next
       goes-on =
           record {
-            head = ap (λ (x : ℕ). (x + 1) % S .q) head-is ∙ ap (λ (x : ℕ). x % S .q) (let one : h + i + 1 ≡ h + suc i = omega arith in one);
+            head = ap (λ (x : ℕ). (x + 1) % S .q) head-is ∙ ap (λ (x : ℕ). x % S .q) (let one : W .to + i + 1 ≡ W .to + suc i = omega arith in one);
             passed = omega (arith, T .passed);
             went = λ x b. elim (eq? x i) [
               | inl e ↦ rw (eq-eqb x i e) (omega (arith, head-is))
@@ -164,15 +171,15 @@ module _ (b m : ℕ) (some : 1 ≤ b) (few : b ≤ 16) (h g : ℕ) (entry : ℕ 
             rest = λ x low b.
                 rw (
                   ne-eqb x i (λ e. omega arith),
-                  ne-eqb (P .forward x) (P .head) (λ e. apart x (h + i) b (omega arith) (omega arith) (sym (T .rest x (omega arith) b) ∙ e ∙ head-is)),
+                  ne-eqb (P .forward x) (P .head) (λ e. W .apart x (W .to + i) b (omega arith) (omega arith) (sym (T .rest x (omega arith) b) ∙ e ∙ head-is)),
                 )
                 (T .rest x (omega arith) b);
             vacant = λ s b.
                 rw (ne-eqb s (P .head) (λ e. omega (arith, head-is)))
                 (elim (split (eqb s (P .forward i))) [ inl k ↦ rw k | inr k ↦ rw k (T .vacant s (omega arith)) ]);
             worn = λ x b. elim (eq? x i) [
-              | inl e ↦ rw (eq-eqb (g + x) (placeIn S P i) (omega (arith, at))) (omega (arith, T .cold (g + x) (omega arith)))
-              | inr k ↦ rw (ne-eqb (g + x) (placeIn S P i) (λ e. omega (arith, at))) (T .worn x (omega arith))
+              | inl e ↦ rw (eq-eqb (W .from + x) (placeIn S P i) (omega (arith, at))) (omega (arith, T .cold (W .from + x) (omega arith)))
+              | inr k ↦ rw (ne-eqb (W .from + x) (placeIn S P i) (λ e. omega (arith, at))) (T .worn x (omega arith))
             ];
             cold = λ x b. rw (ne-eqb x (placeIn S P i) (λ e. omega (arith, at))) (T .cold x (omega arith));
             used = λ c. refl;
@@ -180,12 +187,12 @@ module _ (b m : ℕ) (some : 1 ≤ b) (few : b ≤ 16) (h g : ℕ) (entry : ℕ 
           }
 
   -- j rows from row i on go, up to row k
-  pub march : (k : ℕ) → k ≤ 2 * b → h + k ≤ S .q → (j i : ℕ) → i + j ≡ k → {P : Picture} → Stage i P
-      → (P′ : Picture) × (Stage k P′ × Play S P (eachRead (suc m) i j) (eachGoes h i j) P′)
+  pub march : (k : ℕ) → k ≤ 2 * b → W .to + k ≤ S .q → (j i : ℕ) → i + j ≡ k → {P : Picture} → Stage i P
+      → (P′ : Picture) × (Stage k P′ × Play S P (eachRead (suc m) i j) (eachGoes (W .to) i j) P′)
   march k within room zero i e {P} T = (P, (subst (λ (x : ℕ). Stage x P) (let all : i ≡ k = omega arith in all) T, done))
   march k within room (suc j) i e {P} T =
       let low : i < 2 * b = omega arith in
-      let here : h + i < S .q = omega arith in
+      let here : W .to + i < S .q = omega arith in
       let on = march k within room j (suc i) (omega arith) (goes-on i T low here) in (
         on .0,
         (

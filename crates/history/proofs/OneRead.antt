@@ -6,12 +6,11 @@ use mathlib.Core.Path.{_≡_, refl, sym, ap, _∙_, subst}
 use mathlib.Core.Logic.{inl, inr, _≢_}
 use mathlib.Core.Bool.{Bool, true, false, true≢false}
 use mathlib.Core.List.{[], _∷_}
-use lib.Dec.{leb, eqb}
-use borrow.Author.Tests.{eq-eqb, ne-eqb, lt-leb, eqb-true}
+use lib.Dec.{leb}
+use borrow.Author.Tests.{eq-eqb, ne-eqb, lt-leb}
 use Rattle.geometry.specs.declared.Settings.{Settings}
 use Rattle.geometry.specs.Entry.{empty}
-use Rattle.geometry.proofs.Cases.{split, eq?}
-use Rattle.conditions.proofs.Facts.{limit-fact}
+use Rattle.geometry.proofs.Cases.{eq?}
 use Rattle.banks.specs.Banks.{bankOf}
 use Rattle.tracking.specs.Track.{isDue}
 use Rattle.tracking.proofs.Spare.{busy, Spared, spared}
@@ -20,27 +19,21 @@ use Rattle.engine.specs.declared.Move.{Move}
 use Rattle.engine.specs.declared.Move.the-variants.{Stayed}
 use Rattle.engine.specs.State.{State, Tracker, trackerAt, forwardOf, reverseOf}
 use Rattle.engine.specs.Answer.{slotMovedTo, rowSentHome}
-use Rattle.engine.specs.Steps.{placeBy, place, tracked, counted, moves, skips, skippedOf, skipped, destinationFrom, destination, rise, moveInto, headAfter, move, settled}
+use Rattle.engine.specs.Steps.{placeBy, place, tracked, counted, moves, skips, skippedOf, skipped, destinationFrom, destination, rise}
+use Rattle.engine.specs.Steps.{headAfter, move, settled}
 use Rattle.engine.proofs.Facts.{refuses}
 use Rattle.engine.proofs.Skipping.{skip-none, skip-same}
 use Rattle.engine.proofs.Pointers.{marks-none, place-in}
 use Rattle.engine.proofs.Trackers.{estimate, TracksAt}
-use Rattle.engine.proofs.Counting.{Estimated, by-bank, estimated, counting-after, acts-after}
-use Rattle.engine.proofs.Moves.{Moved, tracks-access, Fate, stays, goes, ousts, fate}
-use Rattle.engine.proofs.Worn.{skips-worn}
+use Rattle.engine.proofs.Counting.{Estimated, by-bank, estimated}
+use Rattle.engine.proofs.Moves.{into-slot, into-row, Moved, Fate, stays, goes, ousts}
 use Rattle.history.specs.Run.{read}
 use Rattle.history.specs.Tight.{readOf}
 use Rattle.history.proofs.Groups.{spanOff, span-in, ladder}
 use Rattle.history.proofs.Invariant.{Inv}
-use Rattle.history.proofs.Calls.{past-8, access-0}
-use Rattle.history.proofs.Known.{Picture, Counts, Shown, Known, placeIn, afterReads, Fits, afterMove}
-
--- what a move into slot d answers; held: d's reverse entry
-slot-of : (d held : ℕ) → slotMovedTo (moveInto d held) ≡ d
-slot-of d held = elim (split (eqb held empty)) [ inl k ↦ rw k | inr k ↦ rw k ]
-
-row-of : (d held : ℕ) → rowSentHome (moveInto d held) ≡ held
-row-of d held = elim (split (eqb held empty)) [ inl k ↦ rw k (sym (eqb-true held empty k)) | inr k ↦ rw k ]
+use Rattle.history.proofs.Access as access
+use Rattle.history.proofs.Calls.{is-reached, access-0}
+use Rattle.history.proofs.Known.{Picture, Counts, Shown, Known, placeIn, afterReads, Fits, afterQuarantine}
 
 -- an accepted read of row r: the slot moved to, the row sent home, and what it leaves
 pub record ReadOnce (S : Settings) (σ : State) (r slot row : ℕ) (P : Picture) : Type 0 where
@@ -83,7 +76,7 @@ module _ {S : Settings} {σ : State} {P : Picture} {r : ℕ} {used acts : ℕ �
   -- ---- the trackers after it
 
   T : TracksAt S σ r
-  T = tracks-access S σ (I .sound) r (F .row-in) (limit-fact S (I .limit)) acts-more (I .counting (place S σ r))
+  T = access.T S σ (K .τ₀) (K .τ) I r (F .row-in) acts-more
 
   -- `spill` stays 0
   spare : Spared (used (bankOf S (place S σ r))) (tracked S σ r)
@@ -195,8 +188,7 @@ module _ {S : Settings} {σ : State} {P : Picture} {r : ℕ} {used acts : ℕ �
     -- the slots that the head skips, told by the picture
     skips-is : (s : ℕ) → s < S .q → skips S σ r s ≡ leb (S .a) (after .estimates (S .n + s))
     skips-is s b =
-        skips-worn S σ r (I .sound) (limit-fact S (I .limit)) (counting-after S σ (I .sound) r T (I .counting))
-        (acts-after S σ (I .sound) r acts-more (I .acts-in)) moving s b
+        access.skip-is S σ (K .τ₀) (K .τ) I r (F .row-in) acts-more moving (σ .store) Stayed s b
         ∙ ap (leb (S .a)) (estimate-then (S .n + s) (omega arith))
 
     -- .. and finds no slot
@@ -206,7 +198,7 @@ module _ {S : Settings} {σ : State} {P : Picture} {r : ℕ} {used acts : ℕ �
         let over : skipped S σ r ≡ skippedOf (λ s. leb (S .a) (after .estimates (S .n + s))) (S .q) (S .q) (P .head) =
         ap (skippedOf (skips S σ r) (S .q) (S .q)) (sh .head-is) ∙ skip-same _ _ (S .q) (S .q) (P .head) head-in skips-is in
         refuses S σ r off
-        (record { reached = past-8 S σ (K .τ₀) (K .τ) I r off (F .row-in) span acts-more; moving = moving; full = omega (arith, over, sh .passed-is) })
+        (record { reached = is-reached S σ (K .τ₀) (K .τ) I r off (F .row-in) span acts-more; moving = moving; full = omega (arith, over, sh .passed-is) })
 
     -- .. and goes to the slot at the head, which is not worn
     module _ (free : after .estimates (S .n + P .head) < S .a) (room : P .passed + 1 ≤ S .q) where
@@ -227,16 +219,16 @@ module _ {S : Settings} {σ : State} {P : Picture} {r : ℕ} {used acts : ℕ �
 
       slot-told : slotMovedTo (move S σ r) ≡ P .head
       unfolding move
-      slot-told = rw moving (slot-of (destination S σ r) (reverseOf σ (destination S σ r)) ∙ to-head)
+      slot-told = rw moving (into-slot (destination S σ r) (reverseOf σ (destination S σ r)) ∙ to-head)
 
       row-told : rowSentHome (move S σ r) ≡ P .reverse (P .head)
       unfolding move
       row-told =
           rw moving
-          (row-of (destination S σ r) (reverseOf σ (destination S σ r)) ∙ ap (reverseOf σ) to-head ∙ sh .reverse-is (P .head) head-in)
+          (into-row (destination S σ r) (reverseOf σ (destination S σ r)) ∙ ap (reverseOf σ) to-head ∙ sh .reverse-is (P .head) head-in)
 
       shown-at : (d : ℕ) (m : Move) → Moved S σ r (σ .store) d (settled S σ r (σ .store) m) → d ≡ P .head
-          → headAfter S (σ .control .head) m ≡ (d + 1) % S .q → Shown S (settled S σ r (σ .store) m) (afterMove S after r)
+          → headAfter S (σ .control .head) m ≡ (d + 1) % S .q → Shown S (settled S σ r (σ .store) m) (afterQuarantine S after r)
       shown-at d m M at next =
           let L = M .links in
           let σ′ : State = settled S σ r (σ .store) m in
@@ -261,16 +253,17 @@ module _ {S : Settings} {σ : State} {P : Picture} {r : ℕ} {used acts : ℕ �
           }
 
       by-fate : (m : Move) → Fate S σ (I .sound) r (F .row-in) (σ .store) m → slotMovedTo m ≡ P .head
-          → Shown S (settled S σ r (σ .store) m) (afterMove S after r)
+          → Shown S (settled S σ r (σ .store) m) (afterQuarantine S after r)
       by-fate m (stays e) at = absurd (true≢false (sym moving ∙ e))
       by-fate m (goes e d vacant M) at = shown-at d m M at refl
       by-fate m (ousts e d v held v-in back M) at = shown-at d m M at refl
 
-      pub goes-once : ReadOnce S σ r (P .head) (P .reverse (P .head)) (afterMove S after r)
+      pub goes-once : ReadOnce S σ r (P .head) (P .reverse (P .head)) (afterQuarantine S after r)
       goes-once =
           record {
             number-is = number-0 (λ m. room-is);
             slot-is = slot-told;
             row-is = row-told;
-            shown = by-fate (move S σ r) (fate S σ (I .sound) r (F .row-in) (I .head-in) (λ m. room-is) (σ .store) (I .sound .lengths .store)) slot-told;
+            shown = by-fate (move S σ r)
+                (access.its-fate S σ (K .τ₀) (K .τ) I r (F .row-in) acts-more (λ m. room-is) (σ .store) (I .sound .lengths .store)) slot-told;
           }

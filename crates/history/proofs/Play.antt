@@ -14,9 +14,9 @@ use Rattle.history.specs.Tally.{Report, Tally, hit, afterAccess, feed, e
 use Rattle.history.specs.Run.{Each}
 use Rattle.history.specs.Window.{fed, ticksIn}
 use Rattle.history.specs.Tight.{Part, reads, ticks, readOf, callsOf}
-use Rattle.history.proofs.Known.{Picture, Known, raised, placeIn, afterReads, Fits, afterMove, afterTick}
-use Rattle.history.proofs.Reading.{accessed, stayed, wanting, ended, Leads, joined, one-tick}
-use Rattle.history.proofs.Reading.{stays as read-stays, goes as read-goes, wants as read-wants}
+use Rattle.history.proofs.Known.{Picture, Known, plusAt, placeIn, afterReads, Fits, afterQuarantine, afterTick}
+use Rattle.history.proofs.Reading.{onAccess, onStay, onWant, onTick, Leads, joined, one-tick}
+use Rattle.history.proofs.Reading.{read-stays, read-goes, read-wants}
 
 -- ---- courses
 
@@ -31,20 +31,21 @@ pub data Course : Type 0 where
 
 -- what its reads answer
 abbrev pub answersOf : ℕ → ℕ → Course → List Report
-answersOf r n stays = replicate n (stayed r)
+answersOf r n stays = replicate n (onStay r)
 answersOf r zero (goes d v) = []
-answersOf r (suc n) (goes d v) = replicate n (stayed r) ++ accessed r d v ∷ []
+answersOf r (suc n) (goes d v) = replicate n (onStay r) ++ onAccess r d v ∷ []
 answersOf r zero wants = []
-answersOf r (suc n) wants = replicate n (stayed r) ++ wanting r ∷ []
+answersOf r (suc n) wants = replicate n (onStay r) ++ onWant r ∷ []
 
 -- what a list answers, with a course for each of its parts that is no tick
 abbrev pub reportsOf : List Part → List Course → List Report
 reportsOf [] fs = []
-reportsOf (ticks ∷ ps) fs = ended ∷ reportsOf ps fs
+reportsOf (ticks ∷ ps) fs = onTick ∷ reportsOf ps fs
 reportsOf (reads r n ∷ ps) [] = []
 reportsOf (reads r n ∷ ps) (f ∷ fs) = answersOf r n f ++ reportsOf ps fs
 
--- From a memory that is known as the first picture the parts take these courses, and lead to one that is known as the second.
+-- From a memory that is known as the first picture the parts take these courses, and lead to one that is known as the second. (`go`
+-- takes any number of reads that makes the row due, so that a list with another number fails there.)
 pub data Play (S : Settings) : Picture → List Part → List Course → Picture → Type 0 where
   done : {P : Picture} → Play S P [] [] P
   tick : {P P′ : Picture} {ps : List Part} {fs : List Course} → Play S (afterTick P) ps fs P′ → Play S P (ticks ∷ ps) fs P′
@@ -53,12 +54,12 @@ pub data Play (S : Settings) : Picture → List Part → List Course → Picture
       → Play S (afterReads S P r n used acts) ps fs P′ → Play S P (reads r n ∷ ps) (stays ∷ fs) P′
   go : {P P′ : Picture} {ps : List Part} {fs : List Course} {r n d v : ℕ} {used acts : ℕ → ℕ} → Fits S P r n used acts
       → 0 < n → P .estimates (placeIn S P r) + n ≡ S .a
-      → raised (placeIn S P r) n (P .estimates) (S .n + P .head) < S .a → P .passed + 1 ≤ S .q
+      → plusAt (placeIn S P r) n (P .estimates) (S .n + P .head) < S .a → P .passed + 1 ≤ S .q
       → P .head ≡ d → P .reverse (P .head) ≡ v
-      → Play S (afterMove S (afterReads S P r n used acts) r) ps fs P′ → Play S P (reads r n ∷ ps) (goes d v ∷ fs) P′
+      → Play S (afterQuarantine S (afterReads S P r n used acts) r) ps fs P′ → Play S P (reads r n ∷ ps) (goes d v ∷ fs) P′
   want : {P P′ : Picture} {ps : List Part} {fs : List Course} {r n : ℕ} {used acts : ℕ → ℕ} → Fits S P r (suc n) used acts
       → P .estimates (placeIn S P r) + suc n ≡ S .a
-      → S .q < P .passed + suc (skippedOf (λ s. leb (S .a) (raised (placeIn S P r) (suc n) (P .estimates) (S .n + s))) (S .q) (S .q) (P .head))
+      → S .q < P .passed + suc (skippedOf (λ s. leb (S .a) (plusAt (placeIn S P r) (suc n) (P .estimates) (S .n + s))) (S .q) (S .q) (P .head))
       → Play S (afterReads S P r n used acts) ps fs P′ → Play S P (reads r (suc n) ∷ ps) (wants ∷ fs) P′
 
 module _ {S : Settings} where
@@ -70,18 +71,20 @@ module _ {S : Settings} where
   played (go {n = zero} F some due free room at held rest) K = absurd (omega arith)
   played (go {P = P} {r = r} {n = suc n} {d = d} {v = v} {used = used} {acts = acts} F some due free room at held rest) {σ} K =
       let R = read-goes S r n K F due free room in
-      let R′ : Leads S σ (replicate (suc n) (readOf r)) (replicate n (stayed r) ++ accessed r d v ∷ []) (afterMove S (afterReads S P r (suc n) used acts) r) =
+      let P″ : Picture = afterQuarantine S (afterReads S P r (suc n) used acts) r in
+      let R′ : Leads S σ (replicate (suc n) (readOf r)) (replicate n (onStay r) ++ onAccess r d v ∷ []) P″ =
       record {
         told-is = R .told-is
-            ∙ ap (λ (x : ℕ). replicate n (stayed r) ++ accessed r x (P .reverse (P .head)) ∷ []) at
-            ∙ ap (λ (x : ℕ). replicate n (stayed r) ++ accessed r d x ∷ []) held;
+            ∙ ap (λ (x : ℕ). replicate n (onStay r) ++ onAccess r x (P .reverse (P .head)) ∷ []) at
+            ∙ ap (λ (x : ℕ). replicate n (onStay r) ++ onAccess r d x ∷ []) held;
         known = R .known;
       } in
       joined R′ (played rest (R′ .known))
   played (want {r = r} {n = n} F due full rest) K = let R = read-wants S r n K F due full in joined R (played rest (R .known))
 
   -- one list after another
-  pub then : {P P₁ P′ : Picture} {ps qs : List Part} {fs gs : List Course} → Play S P ps fs P₁ → Play S P₁ qs gs P′ → Play S P (ps ++ qs) (fs ++ gs) P′
+  pub then : {P P₁ P′ : Picture} {ps qs : List Part} {fs gs : List Course} → Play S P ps fs P₁ → Play S P₁ qs gs P′
+      → Play S P (ps ++ qs) (fs ++ gs) P′
   then done next = next
   then (tick rest) next = tick (then rest next)
   then (stay F low rest) next = stay F low (then rest next)
@@ -90,10 +93,13 @@ module _ {S : Settings} where
 
 -- ---- the tally
 
+-- with other openings
+abbrev pub withOpenings : Tally → (ℕ → ℕ) → Tally
+withOpenings τ o = record { place = τ .place; openings = o; quarantines = τ .quarantines }
+
 -- row r is read n times where it is
 abbrev pub readAt : Tally → ℕ → ℕ → Tally
-readAt τ r n =
-    record { place = τ .place; openings = λ x. τ .openings x + n * hit (τ .place r) x; quarantines = τ .quarantines }
+readAt τ r n = withOpenings τ (λ x. τ .openings x + n * hit (τ .place r) x)
 
 -- after n reads of row r with that course
 abbrev pub tallyOf : Settings → Tally → ℕ → ℕ → Course → Tally
@@ -126,20 +132,20 @@ ticksOf (reads r n ∷ ps) (f ∷ fs) = ticksOf ps fs
 abbrev Calm : List Report → Type 0
 Calm es = Each (λ e. endsEpoch e ≡ false) es
 
-calm-reads : (r n : ℕ) → Calm (replicate n (stayed r))
+calm-reads : (r n : ℕ) → Calm (replicate n (onStay r))
 calm-reads r zero = tt
 calm-reads r (suc n) = (refl, calm-reads r n)
 
-calm-then : (r n : ℕ) (e : Report) → endsEpoch e ≡ false → Calm (replicate n (stayed r) ++ e ∷ [])
+calm-then : (r n : ℕ) (e : Report) → endsEpoch e ≡ false → Calm (replicate n (onStay r) ++ e ∷ [])
 calm-then r zero e k = (k, tt)
 calm-then r (suc n) e k = (refl, calm-then r n e k)
 
 calm : (r n : ℕ) (f : Course) → Calm (answersOf r n f)
 calm r n stays = calm-reads r n
 calm r zero (goes d v) = tt
-calm r (suc n) (goes d v) = calm-then r n (accessed r d v) refl
+calm r (suc n) (goes d v) = calm-then r n (onAccess r d v) refl
 calm r zero wants = tt
-calm r (suc n) wants = calm-then r n (wanting r) refl
+calm r (suc n) wants = calm-then r n (onWant r) refl
 
 ticks-calm : (xs es : List Report) → Calm xs → ticksIn (xs ++ es) ≡ ticksIn es
 ticks-calm [] es k = refl
@@ -154,14 +160,10 @@ module _ (S : Settings) where
   epochs-calm [] es τ₀ τ k = refl
   epochs-calm (x ∷ xs) es τ₀ τ k = rw (k .0) (epochs-calm xs es τ₀ (feed S τ x) (k .1))
 
-  -- with other openings
-  abbrev withOpenings : Tally → (ℕ → ℕ) → Tally
-  withOpenings τ o = record { place = τ .place; openings = o; quarantines = τ .quarantines }
-
-  fed-stays : (r n : ℕ) (τ : Tally) → fed S τ (replicate n (stayed r)) ≡ readAt τ r n
+  fed-stays : (r n : ℕ) (τ : Tally) → fed S τ (replicate n (onStay r)) ≡ readAt τ r n
   fed-stays r zero τ = ap (withOpenings τ) (fun-ext (λ x. let none : τ .openings x ≡ τ .openings x + 0 * hit (τ .place r) x = omega arith in none))
   fed-stays r (suc n) τ =
-      fed-stays r n (feed S τ (stayed r))
+      fed-stays r n (feed S τ (onStay r))
       ∙ ap (withOpenings τ) (fun-ext (λ x.
       let h : ℕ = hit (τ .place r) x in
       let more : τ .openings x + (h + 0) + n * h ≡ τ .openings x + suc n * h = omega (arith, suc-mul n h) in
@@ -171,9 +173,9 @@ module _ (S : Settings) where
   fed-one r n stays τ = fed-stays r n τ
   fed-one r zero (goes d v) τ = refl
   fed-one r (suc n) (goes d v) τ =
-      fed-append (replicate n (stayed r)) (accessed r d v ∷ []) τ ∙ ap (λ (τ : Tally). feed S τ (accessed r d v)) (fed-stays r n τ)
+      fed-append (replicate n (onStay r)) (onAccess r d v ∷ []) τ ∙ ap (λ (τ : Tally). feed S τ (onAccess r d v)) (fed-stays r n τ)
   fed-one r zero wants τ = refl
-  fed-one r (suc n) wants τ = fed-append (replicate n (stayed r)) (wanting r ∷ []) τ ∙ fed-stays r n τ
+  fed-one r (suc n) wants τ = fed-append (replicate n (onStay r)) (onWant r ∷ []) τ ∙ fed-stays r n τ
 
   pub fed-all : (ps : List Part) (fs : List Course) (τ : Tally) → fed S τ (reportsOf ps fs) ≡ tallied S τ ps fs
   fed-all [] fs τ = refl

@@ -13,28 +13,15 @@ use Rattle.geometry.specs.declared.Settings.{Settings}
 use Rattle.geometry.specs.Entry.{empty}
 use Rattle.geometry.proofs.Cases.{lt?}
 use Rattle.engine.specs.Steps.{placeBy, skippedOf}
-use Rattle.engine.proofs.Skipping.{skip-on}
+use Rattle.engine.proofs.Skipping.{skip-all}
 use Rattle.history.specs.Tally.{Report, Tally, start}
-use Rattle.history.specs.Tight.{Part, reads, ticks, oneShort, eachRead, shortFilled, nineParts, Some}
-use Rattle.history.proofs.Known.{Picture, raised, placeIn, afterTick, fresh}
-use Rattle.history.proofs.Reading.{stayed, wanting}
+use Rattle.history.specs.Run.{Some}
+use Rattle.history.specs.Tight.{Part, reads, ticks, oneShort, eachRead, shortFilled, nineParts}
+use Rattle.history.proofs.Known.{Picture, plusAt, placeIn, afterTick, fresh}
+use Rattle.history.proofs.Reading.{onStay, onWant}
 use Rattle.history.proofs.Play.{Course, goes, wants, answersOf, Play, done, want, tick, then, reportsOf, tallyOf, tallied, epochsOf}
 use Rattle.history.proofs.Witness.{some-left, some-right}
-use Rattle.history.proofs.March.{eachGoes, share-none, far, Stage, fits, due, march}
-
--- j slots from s on are skipped at least, where each of them is to be
-skipped-all : (skip : ℕ → Bool) (q j k s : ℕ) → j ≤ k → s + j ≤ q → ((x : ℕ) → s ≤ x → x < s + j → skip x ≡ true) → j ≤ skippedOf skip q k s
-skipped-all skip q zero k s few inside all = omega arith
-skipped-all skip q (suc j) zero s few inside all = absurd (not-suc-le-zero few)
-skipped-all skip q (suc j) (suc k) s few inside all =
-    let here : skip s ≡ true = all s (le-refl s) (omega arith) in
-    elim (lt? (s + 1) q) [
-      | inl b ↦
-          let next : (s + 1) % q ≡ s + 1 = mod-eq-of-lt b in
-          let on : j ≤ skippedOf skip q k (s + 1) = skipped-all skip q j k (s + 1) (omega arith) (omega arith) (λ x low high. all x (omega arith) (omega arith)) in
-          omega (arith, skip-on skip q k s here, ap (skippedOf skip q k) next)
-      | inr b ↦ omega (arith, skip-on skip q k s here)
-    ]
+use Rattle.history.proofs.March.{eachGoes, share-none, far, Round, Stage, fits, due, march}
 
 -- the last row of a list
 each-last : (n j i : ℕ) → eachRead n i (suc j) ≡ eachRead n i j ++ reads (i + j) n ∷ []
@@ -51,26 +38,26 @@ module _ (b m : ℕ) (some : 1 ≤ b) (few : b ≤ 16) where
   abbrev pub S : Settings
   S = oneShort b (suc m)
 
-  -- all rows but the last, of which the list ends
+  -- the last row; so many come before it
   abbrev pub last : ℕ
   last = 2 * b - 1
 
   -- ---- the first epoch: from their homes to slots 0 to 2b − 1
 
-  home-is : (x : ℕ) → x < 2 * b → placeBy S empty x ≡ 0 + x
-  home-is x low = omega arith
+  abbrev from-home : Round b m
+  from-home =
+      record {
+        from = 0;
+        to = 0;
+        entry = λ x. empty;
+        place-is = λ x low. omega arith;
+        bank-is = λ x. ap (λ (y : ℕ). y % b) (let same : 0 + x ≡ x = omega arith in same);
+        apart = λ x s low least high e. omega arith;
+        before = omega arith;
+      }
 
-  home-bank : (x : ℕ) → (0 + x) % b ≡ x % b
-  home-bank x = ap (λ (y : ℕ). y % b) (let same : 0 + x ≡ x = omega arith in same)
-
-  no-slot : (x s : ℕ) → x < 2 * b → 0 ≤ s → s < 4 * b → empty ≢ s
-  no-slot x s low h high e = omega arith
-
-  abbrev First : ℕ → Picture → Type 0
-  First = Stage b m some few 0 0 (λ x. empty) home-is home-bank no-slot (omega arith)
-
-  first : First 0 fresh
-  first =
+  at-home : Stage from-home 0 fresh
+  at-home =
       record {
         head = sym (mod-eq-of-lt (omega arith));
         passed = refl;
@@ -79,8 +66,8 @@ module _ (b m : ℕ) (some : 1 ≤ b) (few : b ≤ 16) where
         vacant = λ s low. refl;
         worn = λ x low. omega arith;
         cold = λ x low. refl;
-        used = λ c. sym (share-none b some c);
-        acts = λ c. omega (arith, ap (λ (u : ℕ). u * suc m) (share-none b some c));
+        used = λ c. sym (share-none b c);
+        acts = λ c. omega (arith, ap (λ (u : ℕ). u * suc m) (share-none b c));
       }
 
   -- ---- the second: from there to slots 2b to 4b − 2, but for the last
@@ -88,14 +75,20 @@ module _ (b m : ℕ) (some : 1 ≤ b) (few : b ≤ 16) where
   slot-is : (x : ℕ) → x < 2 * b → placeBy S x x ≡ 4 * b + x
   slot-is x low = rw (ne-eqb x empty (λ e. omega arith))
 
-  own-slot : (x s : ℕ) → x < 2 * b → 2 * b ≤ s → s < 4 * b → x ≢ s
-  own-slot x s low h high e = omega arith
+  abbrev from-slots : Round b m
+  from-slots =
+      record {
+        from = 4 * b;
+        to = 2 * b;
+        entry = λ x. x;
+        place-is = slot-is;
+        bank-is = far b;
+        apart = λ x s low least high e. omega arith;
+        before = omega arith;
+      }
 
-  abbrev Second : ℕ → Picture → Type 0
-  Second = Stage b m some few (2 * b) (4 * b) (λ x. x) slot-is (far b some) own-slot (omega arith)
-
-  second : (P : Picture) → First (2 * b) P → Second 0 (afterTick P)
-  second P T =
+  in-slots : (P : Picture) → Stage from-home (2 * b) P → Stage from-slots 0 (afterTick P)
+  in-slots P T =
       record {
         head = T .head ∙ ap (λ (x : ℕ). x % S .q) (let same : 0 + 2 * b ≡ 2 * b + 0 = omega arith in same);
         passed = refl;
@@ -104,19 +97,19 @@ module _ (b m : ℕ) (some : 1 ≤ b) (few : b ≤ 16) where
         vacant = λ s low. T .vacant s (omega arith);
         worn = λ x low. omega arith;
         cold = λ x low. refl;
-        used = λ c. sym (share-none b some c);
-        acts = λ c. omega (arith, ap (λ (u : ℕ). u * suc m) (share-none b some c));
+        used = λ c. sym (share-none b c);
+        acts = λ c. omega (arith, ap (λ (u : ℕ). u * suc m) (share-none b c));
       }
 
   -- the last finds no slot: the head would skip the 2b − 1 worn slots and its own
-  module _ (P : Picture) (T : Second last P) where
+  module _ (P : Picture) (T : Stage from-slots last P) where
     low : last < 2 * b
     low = omega arith
 
     at : placeIn S P last ≡ 4 * b + last
     at = ap (λ (e : ℕ). placeBy S e last) (T .rest last (le-refl last) low) ∙ slot-is last low
 
-    worn : (s : ℕ) → 0 ≤ s → s < 0 + 2 * b → leb (suc m) (raised (placeIn S P last) (suc m) (P .estimates) (4 * b + s)) ≡ true
+    worn : (s : ℕ) → 0 ≤ s → s < 0 + 2 * b → leb (suc m) (plusAt (placeIn S P last) (suc m) (P .estimates) (4 * b + s)) ≡ true
     worn s _ high =
         le-leb (suc m) _
         (elim (lt? s last) [
@@ -124,35 +117,28 @@ module _ (b m : ℕ) (some : 1 ≤ b) (few : b ≤ 16) where
           | inr k ↦ rw (eq-eqb (4 * b + s) (placeIn S P last) (omega (arith, at))) (omega arith)
         ])
 
-    full : S .q < P .passed + suc (skippedOf (λ s. leb (suc m) (raised (placeIn S P last) (suc m) (P .estimates) (4 * b + s))) (S .q) (S .q) (P .head))
+    full : S .q < P .passed + suc (skippedOf (λ s. leb (suc m) (plusAt (placeIn S P last) (suc m) (P .estimates) (4 * b + s))) (S .q) (S .q) (P .head))
     full =
         let head-0 : P .head ≡ 0 = T .head ∙ ap (λ (x : ℕ). x % S .q) (let same : 2 * b + last ≡ S .q = omega arith in same) ∙ mod-self (S .q) in
-        rw head-0 (omega (arith, T .passed, skipped-all _ (S .q) (2 * b) (S .q) 0 (omega arith) (omega arith) worn))
+        rw head-0 (omega (arith, T .passed, skip-all _ (S .q) (2 * b) (S .q) 0 (omega arith) (omega arith) worn))
 
     refused : (P′ : Picture) × Play S P (reads last (suc m) ∷ []) (wants ∷ []) P′
-    refused = (
-      _,
-      want
-          (fits b m some few (2 * b) (4 * b) (λ x. x) slot-is (far b some) own-slot (omega arith) last T low)
-          (due b m some few (2 * b) (4 * b) (λ x. x) slot-is (far b some) own-slot (omega arith) last T low)
-          full done,
-    )
+    refused = (_, want (fits from-slots last T low) (due from-slots last T low) full done)
 
   -- ---- the lists
 
   abbrev pub fillCourses : List Course
   fillCourses = eachGoes 0 0 (2 * b) ++ []
 
-  filling : (P : Picture) × (First (2 * b) P × Play S fresh (eachRead (suc m) 0 (2 * b)) (eachGoes 0 0 (2 * b)) P)
-  filling =
-      march b m some few 0 0 (λ x. empty) home-is home-bank no-slot (omega arith) (2 * b) (le-refl (2 * b)) (omega arith) (2 * b) 0 (omega arith) first
+  gone : (P : Picture) × (Stage from-home (2 * b) P × Play S fresh (eachRead (suc m) 0 (2 * b)) (eachGoes 0 0 (2 * b)) P)
+  gone = march from-home (2 * b) (le-refl (2 * b)) (omega arith) (2 * b) 0 (omega arith) at-home
 
-  pub Filled : Picture
-  Filled = afterTick (filling .0)
+  pub Between : Picture
+  Between = afterTick (gone .0)
 
-  pub fill : Play S fresh (shortFilled b (suc m)) fillCourses Filled
-  unfolding Filled
-  fill = then (filling .1 .1) (tick done)
+  pub fill : Play S fresh (shortFilled b (suc m)) fillCourses Between
+  unfolding Between
+  fill = then (gone .1 .1) (tick done)
 
   abbrev pub nineCourses : List Course
   nineCourses = eachGoes (2 * b) 0 last ++ wants ∷ []
@@ -163,25 +149,24 @@ module _ (b m : ℕ) (some : 1 ≤ b) (few : b ≤ 16) where
       let same : 0 + last ≡ last = omega arith in
       ap (eachRead (suc m) 0) rows ∙ each-last (suc m) last 0 ∙ ap (λ (r : ℕ). eachRead (suc m) 0 last ++ reads r (suc m) ∷ []) same
 
-  leaving : (P : Picture) × (Second last P × Play S Filled (eachRead (suc m) 0 last) (eachGoes (2 * b) 0 last) P)
-  unfolding Filled
-  leaving =
-      march b m some few (2 * b) (4 * b) (λ x. x) slot-is (far b some) own-slot (omega arith) last (omega arith) (omega arith) last 0 (omega arith)
-      (second (filling .0) (filling .1 .0))
+  gone-again : (P : Picture) × (Stage from-slots last P × Play S Between (eachRead (suc m) 0 last) (eachGoes (2 * b) 0 last) P)
+  unfolding Between
+  gone-again = march from-slots last (omega arith) (omega arith) last 0 (omega arith) (in-slots (gone .0) (gone .1 .0))
 
-  end : (P : Picture) × Play S (leaving .0) (reads last (suc m) ∷ []) (wants ∷ []) P
-  end = refused (leaving .0) (leaving .1 .0)
+  end : (P : Picture) × Play S (gone-again .0) (reads last (suc m) ∷ []) (wants ∷ []) P
+  end = refused (gone-again .0) (gone-again .1 .0)
 
-  pub nine-play : (P : Picture) × Play S Filled (nineParts b (suc m)) nineCourses P
+  pub nine-play : (P : Picture) × Play S Between (nineParts b (suc m)) nineCourses P
   nine-play =
-      (end .0, subst (λ (ps : List Part). Play S Filled ps nineCourses (end .0)) (sym nine-are) (then (leaving .1 .1) (end .1)))
+      (end .0, subst (λ (ps : List Part). Play S Between ps nineCourses (end .0)) (sym nine-are) (then (gone-again .1 .1) (end .1)))
 
   -- ---- their figures
 
-  -- the epoch that is ended by the tick after j rows
+  -- the epoch that is onTick by the tick after j rows
   first-epoch : (j i : ℕ) (τ₀ τ : Tally)
       → epochsOf S τ₀ τ (eachRead (suc m) i j ++ ticks ∷ []) (eachGoes 0 i j ++ [])
-      ≡ (let τ′ : Tally = tallied S τ (eachRead (suc m) i j) (eachGoes 0 i j) in record { first = τ₀; last = τ′ } ∷ record { first = τ′; last = τ′ } ∷ [])
+      ≡ (let τ′ : Tally = tallied S τ (eachRead (suc m) i j) (eachGoes 0 i j) in
+      record { first = τ₀; last = τ′ } ∷ record { first = τ′; last = τ′ } ∷ [])
   first-epoch zero i τ₀ τ = refl
   first-epoch (suc j) i τ₀ τ = first-epoch j (suc i) τ₀ _
 
@@ -200,12 +185,12 @@ module _ (b m : ℕ) (some : 1 ≤ b) (few : b ≤ 16) where
   fill-quarantines = omega (arith, quarantined (2 * b) 0 start (omega arith))
 
   -- floor(2A / A) is 2
-  pub most : b * (S .l / suc m) ≡ b * 2
-  most = ap (λ (x : ℕ). b * x) (div-eq-of-lt-le {k = 2} (suc m) (omega arith) (omega arith))
+  pub two-each : b * (S .l / suc m) ≡ b * 2
+  two-each = ap (λ (x : ℕ). b * x) (div-eq-of-lt-le {k = 2} (suc m) (omega arith) (omega arith))
 
   pub nine-told : Some (λ e. e .number ≡ 9) (reportsOf (nineParts b (suc m)) nineCourses)
   nine-told =
       let Nine : Report → Type 0 = λ e. e .number ≡ 9 in
       subst (λ (ps : List Part). Some Nine (reportsOf ps nineCourses)) (sym nine-are)
       (some-each Nine (suc m) (2 * b) last 0 (reads last (suc m) ∷ []) (wants ∷ [])
-      (some-left Nine (answersOf last (suc m) wants) [] (some-right Nine (replicate m (stayed last)) (wanting last ∷ []) (inl refl))))
+      (some-left Nine (answersOf last (suc m) wants) [] (some-right Nine (replicate m (onStay last)) (onWant last ∷ []) (inl refl))))

@@ -11,10 +11,11 @@ use Rattle.geometry.specs.Entry.{empty}
 use Rattle.geometry.proofs.Tests.{and-left, and-right}
 use Rattle.banks.specs.Banks.{bankOf}
 use Rattle.history.specs.Tight.{Part, reads, twoSlots, threeSlots, twoFilled, threeFilled, homeParts, homePartsOver, slotParts, slotPartsOver}
-use Rattle.history.proofs.Known.{Picture, raised, placeIn, afterReads, Fits, afterMove, fresh}
+use Rattle.history.proofs.Known.{Picture, plusAt, placeIn, afterReads, Fits, afterQuarantine, fresh}
 use Rattle.history.proofs.Play.{Course, stays, goes, Play, done, stay, go, tick, then}
 
--- ---- Parts of a list in which it does not matter how the places are spread over banks: what is at most used is u in each.
+-- ---- Parts of a list in which it does not matter how the places are spread over banks: each bank has at most u entries that have
+-- counted. What is known of numbers alone is a test, for `refl`.
 
 module _ {S : Settings} {P : Picture} {r n : ℕ} (u : ℕ) (fit : (ltb r (S .n) && leb u (S .k)) ≡ true)
     (kept : (c : ℕ) → P .used c ≤ u) (more : 0 < n → P .estimates (placeIn S P r) ≡ 0 → P .used (bankOf S (placeIn S P r)) < u)
@@ -36,20 +37,42 @@ module _ {S : Settings} {P : Picture} {r n : ℕ} (u : ℕ) (fit : (ltb r (S .n)
   stay-at low rest = stay fits low rest
 
   pub go-at : {P′ : Picture} {ps : List Part} {fs : List Course} {d v : ℕ} → 0 < n → P .estimates (placeIn S P r) + n ≡ S .a
-      → raised (placeIn S P r) n (P .estimates) (S .n + P .head) < S .a → ltb (P .passed) (S .q) ≡ true
+      → plusAt (placeIn S P r) n (P .estimates) (S .n + P .head) < S .a → ltb (P .passed) (S .q) ≡ true
       → P .head ≡ d → P .reverse (P .head) ≡ v
-      → Play S (afterMove S (afterReads S P r n (λ c. u) (λ c. P .acts c + n)) r) ps fs P′ → Play S P (reads r n ∷ ps) (goes d v ∷ fs) P′
+      → Play S (afterQuarantine S (afterReads S P r n (λ c. u) (λ c. P .acts c + n)) r) ps fs P′ → Play S P (reads r n ∷ ps) (goes d v ∷ fs) P′
   go-at some due free room at held rest = go fits some due free (omega (arith, ltb-true (P .passed) (S .q) room)) at held rest
+
+-- ---- the courses of the lists
+
+-- rows 0 and 1 go to slots 0 and 1
+abbrev pub filling : List Course
+filling = goes 0 empty ∷ goes 1 empty ∷ []
+
+-- row 2 goes to slot 0, and row 0, which is sent home, to slot 1
+abbrev pub homeCourses : List Course
+homeCourses = goes 0 0 ∷ goes 1 1 ∷ []
+
+-- row 0 is read in slot 0, row 2 goes to slot 0, and then to slot 1
+abbrev pub slotCourses : List Course
+slotCourses = stays ∷ goes 0 0 ∷ goes 1 1 ∷ []
+
+-- after the tick row 0 goes to slot 0, and then to slot 1, from which row 2 is sent home
+abbrev pub slotCoursesOver : List Course
+slotCoursesOver = slotCourses ++ goes 0 empty ∷ goes 1 2 ∷ []
+
+-- rows 0, 1 and 2 go to slots 0, 1 and 2
+abbrev pub fillingAll : List Course
+fillingAll = goes 0 empty ∷ goes 1 empty ∷ goes 2 empty ∷ []
+
+-- each of rows 3, 0 and 1 sends home the next, and so does each of rows 2, 3 and 0 after the tick
+abbrev pub homeCoursesOver : List Course
+homeCoursesOver = goes 0 0 ∷ goes 1 1 ∷ goes 2 2 ∷ goes 0 3 ∷ goes 1 0 ∷ goes 2 1 ∷ []
 
 -- ---- two slots
 
 module _ (b m : ℕ) where
   abbrev pub Two : Settings
   Two = twoSlots b (suc m)
-
-  -- rows 0 and 1 go to slots 0 and 1
-  abbrev pub filling : List Course
-  filling = goes 0 empty ∷ goes 1 empty ∷ []
 
   abbrev pub fill : (P : Picture) × Play Two fresh (twoFilled (suc m)) filling P
   fill = (
@@ -59,10 +82,6 @@ module _ (b m : ℕ) where
         (tick done)),
   )
 
-  -- row 2 goes to slot 0, and row 0, which is sent home, to slot 1
-  abbrev pub homeCourses : List Course
-  homeCourses = goes 0 0 ∷ goes 1 1 ∷ []
-
   pub home-play : (P : Picture) × Play Two (fill .0) (homeParts (suc m)) homeCourses P
   home-play = (
     _,
@@ -71,26 +90,19 @@ module _ (b m : ℕ) where
         done),
   )
 
-  -- row 0 is read in slot 0, row 2 goes to slot 0, and then to slot 1
-  abbrev pub slotCourses : List Course
-  slotCourses = stays ∷ goes 0 0 ∷ goes 1 1 ∷ []
-
   -- the entries that row 0's reads take: with A = 1 it is not read, and slot 0 is a new place for row 2
-  abbrev pub taken : ℕ
-  taken = 1 - (1 - m)
+  abbrev pub entries : ℕ
+  entries = 1 - (1 - m)
 
   abbrev pub slot-play : (P : Picture) × Play Two (fill .0) (slotParts (suc m)) slotCourses P
   slot-play = (
     _,
-    stay-at taken (rw (le-leb taken 2 (omega arith))) (λ c. omega arith) (λ some e. omega arith) (omega arith) (omega arith)
-        (go-at (suc taken) (rw (le-leb (suc taken) 2 (omega arith))) (λ c. omega arith) (λ some e. omega arith) (omega arith) (omega arith) (omega arith) (omega arith) refl refl refl
+    stay-at entries (rw (le-leb entries 2 (omega arith))) (λ c. omega arith) (λ some e. omega arith) (omega arith) (omega arith)
+        (go-at (suc entries) (rw (le-leb (suc entries) 2 (omega arith))) (λ c. omega arith) (λ some e. omega arith)
+        (omega arith) (omega arith) (omega arith) (omega arith) refl refl refl
         (go-at 2 refl (λ c. omega arith) (λ some e. omega arith) (omega arith) (omega arith) (omega arith) (omega arith) refl refl refl
         done)),
   )
-
-  -- after the tick row 0 goes to slot 0, and then to slot 1, from which row 2 is sent home
-  abbrev pub slotCoursesOver : List Course
-  slotCoursesOver = slotCourses ++ goes 0 empty ∷ goes 1 2 ∷ []
 
   pub slot-play-over : (P : Picture) × Play Two (fill .0) (slotPartsOver (suc m)) slotCoursesOver P
   slot-play-over = (
@@ -108,10 +120,6 @@ module _ (b m : ℕ) where
   abbrev pub Three : Settings
   Three = threeSlots b (suc m)
 
-  -- rows 0, 1 and 2 go to slots 0, 1 and 2
-  abbrev pub fillingAll : List Course
-  fillingAll = goes 0 empty ∷ goes 1 empty ∷ goes 2 empty ∷ []
-
   abbrev pub fill-all : (P : Picture) × Play Three fresh (threeFilled (suc m)) fillingAll P
   fill-all = (
     _,
@@ -120,10 +128,6 @@ module _ (b m : ℕ) where
         (go-at 3 refl (λ c. omega arith) (λ some e. omega arith) (omega arith) (omega arith) (omega arith) (omega arith) refl refl refl
         (tick done))),
   )
-
-  -- each of rows 3, 0 and 1 sends home the next, and so does each of rows 2, 3 and 0 after the tick
-  abbrev pub homeCoursesOver : List Course
-  homeCoursesOver = goes 0 0 ∷ goes 1 1 ∷ goes 2 2 ∷ goes 0 3 ∷ goes 1 0 ∷ goes 2 1 ∷ []
 
   pub home-play-over : (P : Picture) × Play Three (fill-all .0) (homePartsOver (suc m)) homeCoursesOver P
   home-play-over = (

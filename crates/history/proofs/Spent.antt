@@ -16,7 +16,7 @@ use Rattle.engine.specs.Answer.{slotMovedTo}
 use Rattle.engine.specs.Steps.{place, counted, moves, move}
 use Rattle.engine.specs.Calls as calls
 use Rattle.engine.proofs.Facts.{accepted, wanting}
-use Rattle.engine.proofs.Trackers.{TracksAt, cleared-new}
+use Rattle.engine.proofs.Trackers.{TracksAt}
 use Rattle.engine.proofs.Counting.{quotients-after, total-after}
 use Rattle.engine.proofs.Moves.{tracks-access, slot-told}
 use Rattle.history.specs.Tally as tally
@@ -26,7 +26,7 @@ use Rattle.history.proofs.Groups.{ladder, at-9, step-cases}
 use Rattle.history.proofs.Invariant.{Inv}
 use Rattle.history.proofs.Access.{wanting-few}
 use Rattle.history.proofs.Chain.{Chain, chain-of, idle-progress}
-use Rattle.history.proofs.History.{set-up-state, inv-set-up, inv-chain, followed}
+use Rattle.history.proofs.History.{set-up-new, inv-set-up, inv-chain, followed}
 
 -- what the answers said against the counts of all banks: the quarantines, and at least as many accesses as were counted
 record Paced (S : Settings) (σ : State) (p : Progress) : Type 0 where
@@ -92,7 +92,7 @@ pub spent-late : (S : Settings) (blank : State) → (calls.setUp S blank) .numbe
 spent-late S blank z {σ} {es} chain =
     let I = inv-set-up S blank z in
     let new : Paced S ((calls.setUp S blank) .state) begun =
-    rw (set-up-state S blank z) (subst (λ (σ′ : State). Paced S σ′ begun) (cleared-new S blank (I .sound .ranges .b-high)) (paced-new S (calls.cleared S blank))) in
+    subst (λ (σ′ : State). Paced S σ′ begun) (set-up-new S blank z) (paced-new S (calls.cleared S blank)) in
     let J = inv-chain S chain tally.start tally.start I in
     spent S σ (J .0) (J .1) (J .2) (progressed begun es)
     (followed S progress progressed (λ p. refl) (λ p e es. refl) (λ e p. idle-progress p) (Paced S) (paced-step S) chain tally.start tally.start I begun new)

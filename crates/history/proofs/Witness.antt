@@ -1,30 +1,25 @@
 -- From a play to what is claimed of the events. Assumes nothing.
-use Prim.Native.Nat.{ℕ, _+_, _*_, _<_, _≤_}
+use Prim.Native.Nat.{ℕ, _+_, _*_, _<_}
 use mathlib.Core.Path.{_≡_, refl, sym, ap, _∙_, subst}
 use mathlib.Core.Logic.{inl, inr}
 use mathlib.Core.Bool.{true}
 use mathlib.Core.List.{List, [], _∷_, _++_, map, append-assoc}
 use lib.ListN.{replicate, length-replicate}
-use borrow.Author.Tests.{lt-ltb, le-leb}
 use Rattle.geometry.specs.declared.Settings.{Settings}
-use Rattle.geometry.specs.Ranges.{inRange}
-use Rattle.conditions.specs.Conditions.{rangesHold, limitHolds}
-use Rattle.conditions.proofs.Facts.{lengths-hold}
+use Rattle.conditions.specs.Conditions.{rangesHold}
+use Rattle.conditions.proofs.Facts.{limit-holds, lengths-hold}
 use Rattle.engine.specs.State.{State, lengthsOf, newControl}
 use Rattle.engine.specs.Calls.{setUp, noted}
 use Rattle.engine.proofs.Facts.{fit-passes}
 use Rattle.history.specs.Tally.{Report, Tally, start, openingsIn, epochs}
-use Rattle.history.specs.Run.{Call, tick, Event, run, events, reportOf}
+use Rattle.history.specs.Run.{Call, tick, Event, run, events, reportOf, Some}
 use Rattle.history.specs.Window.{fed, ticksIn}
-use Rattle.history.specs.Tight.{Part, reads, ticks, readOf, callsOf, Some, Witness, OverOneTick}
+use Rattle.history.specs.Tight.{Part, reads, ticks, readOf, callsOf, Witness, OverOneTick}
 use Rattle.history.proofs.Known.{Picture, Known, fresh, known-set-up}
 use Rattle.history.proofs.Reading.{events-append}
 use Rattle.history.proofs.Play.{Course, reportsOf, Play, played, tallied, epochsOf, ticksOf, fed-all, epochs-all, ticks-all}
 
 -- ---- settings in their ranges
-
-pub in-range : (least most x : ℕ) → least ≤ x → x ≤ most → inRange least most x ≡ true
-in-range least most x low high = rw (le-leb least x low, le-leb x most high)
 
 module _ (S : Settings) (narrow : S .w ≡ 1) (ranges : rangesHold S ≡ true) (few : S .l < S .a * (S .k + 1)) where
   -- memory of the lengths that they ask for
@@ -39,17 +34,13 @@ module _ (S : Settings) (narrow : S .w ≡ 1) (ranges : rangesHold S ≡ true) (
         control = newControl;
       }
 
-  limit : limitHolds S ≡ true
-  unfolding limitHolds
-  limit = lt-ltb (S .l) (S .a * (S .k + 1)) few
-
   accepted : (setUp S lent) .number ≡ 0
   unfolding setUp noted lent
   accepted =
       fit-passes S lent
       (record {
         ranges = ranges;
-        limit = limit;
+        limit = limit-holds S few;
         lengths = lengths-hold S (lengthsOf lent)
             (record {
               store = length-replicate ((S .n + S .q) * S .w) 0;
@@ -63,7 +54,7 @@ module _ (S : Settings) (narrow : S .w ≡ 1) (ranges : rangesHold S ≡ true) (
   pub witness : {parts : List Part} {P : List Event → Type 0} → ((σ : State) → Known S σ fresh → P (events S σ (callsOf parts)))
       → Witness S parts P
   witness h =
-      record { taken = (lent, accepted); reached = λ σ z. h ((setUp S σ) .state) (known-set-up S σ narrow z) }
+      record { accepts = (lent, accepted); reached = λ σ z. h ((setUp S σ) .state) (known-set-up S σ narrow z) }
 
 -- ---- lists
 

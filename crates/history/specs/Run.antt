@@ -138,6 +138,11 @@ abbrev pub Each : {A : Type 0} → (A → Type 0) → List A → Type 0
 Each P [] = Unit {0}
 Each P (x ∷ xs) = P x × Each P xs
 
+-- of some element of a list
+abbrev pub Some : {A : Type 0} → (A → Type 0) → List A → Type 0
+Some P [] = ⊥
+Some P (x ∷ xs) = P x ⊎ Some P xs
+
 -- x stands in the list
 abbrev pub OneOf : List ℕ → ℕ → Type 0
 OneOf [] x = ⊥

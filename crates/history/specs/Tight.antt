@@ -1,10 +1,10 @@
--- No figure of demand 3 (`Demand3`), or of a stretch over one tick (`Window`), can be lowered: for every A and every B there are
--- settings and a list of calls that reach it. The proof is `tight` of proofs/Tight.antt; `bin/witness` reads the lists from this
--- file and writes them as traces.
+-- No figure of demand 3 (`Demand3`), or of a stretch over one tick (`Window`), can be lowered: for every A and every B
+-- there are settings and a list of calls that reach it. The proof is `tight` of proofs/Tight.antt.
+-- `bin/witness` reads the settings and the lists from this file and writes them as traces. So each stands on one line,
+-- with its arguments named a and b, and in `AllReached` each figure has its `Witness (..) (..)` on one line.
 -- Assumes nothing.
 use Prim.Native.Nat.{ℕ, zero, suc, _+_, _-_, _*_, _/_, _≤_}
 use mathlib.Core.Path.{_≡_}
-use mathlib.Core.Logic.{_⊎_}
 use mathlib.Core.List.{List, [], _∷_, _++_, map}
 use lib.ListN.{replicate}
 use Rattle.geometry.specs.declared.Settings.{Settings}
@@ -13,7 +13,7 @@ use Rattle.banks.specs.Banks.{mostBanks}
 use Rattle.engine.specs.State.{State}
 use Rattle.engine.specs.Calls.{setUp}
 use Rattle.history.specs.Tally.{start, Stretch, openingsIn, quarantinesIn, epochs}
-use Rattle.history.specs.Run.{Call, access, read, tick, Event, events, reportOf}
+use Rattle.history.specs.Run.{Call, access, read, tick, Event, events, reportOf, Some}
 use Rattle.history.specs.Window.{ticksIn, stretchOf}
 
 -- ---- lists, told in parts
@@ -21,9 +21,10 @@ use Rattle.history.specs.Window.{ticksIn, stretchOf}
 pub data Part : Type 0 where
   -- a row that is read so many times on end
   reads : (row times : ℕ) → Part
+  -- a tick
   ticks : Part
 
--- a row has one byte in the settings below, and so a read's buffer
+-- a row has one byte in the settings below, and so has a read's buffer
 abbrev pub readOf : ℕ → Call
 readOf r = access (read r (0 ∷ []))
 
@@ -32,10 +33,10 @@ callsOf [] = []
 callsOf (reads r n ∷ parts) = replicate n (readOf r) ++ callsOf parts
 callsOf (ticks ∷ parts) = tick ∷ callsOf parts
 
--- ---- Openings. A row whose place no call of the epoch has opened before is quarantined with the A-th of its reads. With any number
--- of banks the lists do the same: none reads at more places in an epoch than a bank has entries.
+-- ---- Openings. A row whose place no other access of the epoch has opened is quarantined with the A-th of its reads. With
+-- any number of banks the lists do the same: none reads at more places in an epoch than a bank has tracker entries.
 
--- two slots, and two entries in each bank
+-- two slots, and two tracker entries for each bank
 abbrev pub twoSlots : ℕ → ℕ → Settings
 twoSlots b a = record { n = 3; q = 2; w = 1; k = 2; a = a; l = 2 * a; b = b }
 
@@ -43,22 +44,22 @@ twoSlots b a = record { n = 3; q = 2; w = 1; k = 2; a = a; l = 2 * a; b = b }
 abbrev pub twoFilled : ℕ → List Part
 twoFilled a = reads 0 a ∷ reads 1 a ∷ ticks ∷ []
 
--- A home row is opened A + 2 times: it gets its row back, is read A times, and is copied away. Row 2 goes to slot 0, so that row 0 is
--- sent home, and then row 0 to slot 1.
+-- A home row is opened A + 2 times: it gets its row back, is read A times, and is copied away. Row 2 goes to slot 0, so that
+-- row 0 is sent home, and then row 0 to slot 1.
 abbrev pub homeParts : ℕ → List Part
 homeParts a = reads 2 a ∷ reads 0 a ∷ []
 
--- A slot is opened A + 3 times: its row is read A − 1 times and sent home, and the row that it gets is read once and copied away.
--- Row 0 is read in slot 0, row 2 goes to slot 0, and then to slot 1.
+-- A slot is opened A + 3 times: its row is read A − 1 times and sent home, and the row that it gets is read once and copied
+-- away. Row 0 is read in slot 0, row 2 goes to slot 0, and then to slot 1.
 abbrev pub slotParts : ℕ → List Part
 slotParts a = reads 0 (a - 1) ∷ reads 2 a ∷ reads 2 1 ∷ []
 
--- Over one tick a slot is opened 2A + 5 times: A + 3 times before the tick, as above, which leaves it empty; then it gets a row, which
--- is read A times and copied away. Row 0 goes to slot 0, and then to slot 1.
+-- Over one tick a slot is opened 2A + 5 times: A + 3 times before the tick, as above, which leaves it empty; then it gets a
+-- row, which is read A times and copied away. Row 0 goes to slot 0, and then to slot 1.
 abbrev pub slotPartsOver : ℕ → List Part
 slotPartsOver a = slotParts a ++ ticks ∷ reads 0 a ∷ reads 0 a ∷ []
 
--- three slots, and three entries in each bank
+-- three slots, and three tracker entries for each bank
 abbrev pub threeSlots : ℕ → ℕ → Settings
 threeSlots b a = record { n = 4; q = 3; w = 1; k = 3; a = a; l = 3 * a; b = b }
 
@@ -66,13 +67,14 @@ threeSlots b a = record { n = 4; q = 3; w = 1; k = 3; a = a; l = 3 * a; b = b }
 abbrev pub threeFilled : ℕ → List Part
 threeFilled a = reads 0 a ∷ reads 1 a ∷ reads 2 a ∷ ticks ∷ []
 
--- Over one tick a home row is opened 2A + 4 times, A + 2 times in each epoch. Row 3 goes to slot 0, so that row 0 is sent home, then
--- row 0 to slot 1 and row 1 to slot 2; after the tick row 2 goes to slot 0, and row 3 to slot 1, so that row 0 is sent home again,
--- and then row 0 to slot 2.
+-- Over one tick a home row is opened 2A + 4 times, A + 2 times in each epoch. Row 3 goes to slot 0, so that row 0 is sent
+-- home, then row 0 to slot 1 and row 1 to slot 2; after the tick row 2 goes to slot 0, and row 3 to slot 1, so that row 0 is
+-- sent home again, and then row 0 to slot 2.
 abbrev pub homePartsOver : ℕ → List Part
 homePartsOver a = reads 3 a ∷ reads 0 a ∷ reads 1 a ∷ ticks ∷ reads 2 a ∷ reads 3 a ∷ reads 0 a ∷ []
 
--- ---- Quarantines, and a 9. An epoch can have B × floor(L / A) quarantines, here 2B; the slots are one less than twice as many.
+-- ---- Quarantines, and a 9. An epoch can have B × floor(L / A) quarantines, here 2B; the slots are one less than twice as
+-- many.
 
 -- row i and slot i, which is physical row 4B + i, are of one bank
 abbrev pub oneShort : ℕ → ℕ → Settings
@@ -87,21 +89,16 @@ eachRead n r (suc m) = reads r n ∷ eachRead n (suc r) m
 abbrev pub shortFilled : ℕ → ℕ → List Part
 shortFilled b a = eachRead a 0 (2 * b) ++ ticks ∷ []
 
--- In the next epoch each of them but the last leaves its slot worn and goes to one of the 2B − 1 slots after these. The last would
--- pass the worn slots and its own, and go on to the next: `passed` is 2B − 1, and its rise 2B + 1.
+-- In the next epoch each of them but the last leaves its slot worn and goes to one of the 2B − 1 slots after these. The last
+-- would pass the worn slots and its own, and go on to the next: `passed` is 2B − 1, and its rise 2B + 1.
 abbrev pub nineParts : ℕ → ℕ → List Part
 nineParts b a = eachRead a 0 (2 * b)
 
 -- ---- the claim
 
--- of some element of a list
-abbrev pub Some : {A : Type 0} → (A → Type 0) → List A → Type 0
-Some P [] = ⊥
-Some P (x ∷ xs) = P x ⊎ Some P xs
-
 -- set-up accepts the settings, and then what the calls answer is as P says, whatever memory was lent
 pub record Witness (S : Settings) (parts : List Part) (P : List Event → Type 0) : Type 0 where
-  pub taken : (σ : State) × ((setUp S σ) .number ≡ 0)
+  pub accepts : (σ : State) × ((setUp S σ) .number ≡ 0)
   pub reached : (σ : State) → (setUp S σ) .number ≡ 0 → P (events S ((setUp S σ) .state) (callsOf parts))
 
 -- of some epoch, by 01's tally

@@ -93,6 +93,7 @@ pub struct Ran {
     pub most: Figures,
 }
 
+/// Runs the steps after set-up.
 pub fn run(s: Settings, steps: &[Vec<u32>], counts: &mut Counts) -> Result<Ran, String> {
     let mut stream = Stream::new(s, counts)?;
     let mut numbers = Vec::new();
@@ -103,28 +104,19 @@ pub fn run(s: Settings, steps: &[Vec<u32>], counts: &mut Counts) -> Result<Ran, 
     Ok(Ran { numbers, figures: stream.watcher.tally.figures(), most: stream.most })
 }
 
-/// A stream that meets a 9 with one slot less than suffices, and none with one slot more, where its last epoch has as
-/// many quarantines as there can be. With one bank: row 0 passes its own slot 0, and takes slot 1; row 2 would pass its
-/// own slot 2 and slot 0.
+/// A stream that meets a 9 with one slot less than suffices, and none with one slot more, where its last epoch has as many
+/// quarantines as there can be.
 ///
-/// With B of 2 or more banks, one entry in each, L = A and N = 2 B, an epoch has at most B quarantines and 2 B slots
-/// suffice. Home i and slot i, which is physical row N + i, are of bank i mod B. In the first epoch rows 0 to B - 1 are
-/// read A times each and take the slots of their numbers. In the second they are read A times again, there: row i leaves
-/// slot i worn, by its bank's only entry, and takes slot B + i, as long as there is one. With 2 B - 1 slots there is none
-/// for row B - 1: the head is at slot 0 again, with B - 1 slots gone by; slots 0 to B - 2 are worn, B - 1 is the row's
-/// own, and slot B, in which row 0 is now, is not worn, since the only entry of its bank names slot 0. That would be
-/// B + 1 slots more, 2 B in all: a 9. So for B = 2 the settings are `4 3 1 1 A A 2`, and the steps A times 0, A times 1,
-/// a tick, A times 0, A times 1. With 2 B slots row B - 1 takes the last.
+/// With two entries for each of B banks, L = 2 A and N = 4 B, an epoch has at most 2 B quarantines and 4 B slots suffice.
+/// Home i and slot i, which is physical row N + i, are of bank i mod B. In the first epoch rows 0 to 2 B - 1 are read A
+/// times each and take the slots of their numbers. In the second they are read A times again, there: row i leaves slot i
+/// worn and takes slot 2 B + i, as long as there is one. With 4 B - 1 slots there is none for row 2 B - 1: the head is at slot
+/// 0 again, with 2 B - 1 slots gone by; slots 0 to 2 B - 2 are worn, 2 B - 1 is the row's own, and slot 2 B, in which row 0 is
+/// now, is not worn. That would be 2 B + 1 slots more, 4 B in all: a 9. With 4 B slots row 2 B - 1 takes the last.
 fn one_slot_short(a: u32, b: u32, counts: &mut Counts) -> Result<bool, String> {
-    let burst = |row: u32| vec![row; a as usize];
-    let tick = vec![TICK];
-    let once: Vec<Vec<u32>> = (0..b).map(burst).collect();
-    let (s, steps) = if b == 1 {
-        let steps = vec![burst(0), burst(1), tick.clone(), burst(2), tick, burst(0), burst(2)];
-        (settings([4, 3, 2, a, 2 * a, 1]), steps)
-    } else {
-        (settings([2 * b, 2 * b - 1, 1, a, a, b]), [once.clone(), vec![tick], once].concat())
-    };
+    let once: Vec<Vec<u32>> = (0..2 * b).map(|row| vec![row; a as usize]).collect();
+    let steps = [once.clone(), vec![vec![TICK]], once].concat();
+    let s = settings([4 * b, 4 * b - 1, 2, a, 2 * a, b]);
     let short = run(s, &steps, counts)?;
     let roomy = run(Settings { q: s.q + 1, ..s }, &steps, counts)?;
     let (last, others) = short.numbers.split_last().ok_or("no steps")?;
@@ -135,7 +127,8 @@ fn one_slot_short(a: u32, b: u32, counts: &mut Counts) -> Result<bool, String> {
 /// Streams that attain the figures: A + 2 at row 0's home, in its second epoch; A + 3 at slot 0, in its second epoch; 2 A + 4
 /// and 2 A + 5 at the same rows in the second epoch and the third together; and a 9 with one slot less than suffices. The
 /// first four ask for at most as many entries in a bank as there are slots, and for at most A times as many accesses of it;
-/// so they attain the figures with any number of banks.
+/// so they attain the figures with any number of banks. They are the lists of `Tight` (crates/history/specs/Tight.antt), which
+/// `bin/witness` writes for small A; here A may be any.
 pub fn attained(a: u32, b: u32, counts: &mut Counts) -> Result<(), String> {
     let burst = |row: u32| vec![row; a as usize];
     let tick = || vec![TICK];

@@ -15,12 +15,15 @@ const SHOWN: u64 = 3;
 struct Figure {
     /// As `bin/witness` names it.
     name: &'static str,
-    /// The length of its list for A and B: so much for each A, and so much more.
+    /// The steps of its list with B banks: so many for each of A, and so many more.
     length: fn(u64) -> (u64, u64),
+    /// What it is to be with these settings.
     due: fn(&Settings) -> u64,
+    /// What it was in a run, in whichever epoch it was greatest.
     had: fn(&Ran) -> u64,
 }
 
+/// The accesses that got 9.
 fn nines(ran: &Ran) -> u64 {
     ran.numbers.iter().filter(|&&number| number == 9).count() as u64
 }
@@ -41,12 +44,7 @@ const FIGURES: [Figure; 6] = [
         had: |ran| ran.most.slot_over_tick,
     },
     Figure { name: "quarantines", length: |b| (2 * b, 1), due: Settings::figure, had: |ran| ran.most.quarantines },
-    Figure {
-        name: "nine",
-        length: |b| (4 * b, 1),
-        due: |s| u64::from(u64::from(s.q) + 1 == 2 * s.figure()),
-        had: nines,
-    },
+    Figure { name: "nine", length: |b| (4 * b, 1), due: |_| 1, had: nines },
 ];
 
 /// What `bin/witness` writes; none where it says that a trace cannot have so many steps.
@@ -56,7 +54,7 @@ fn written(name: &str, a: u64, b: u64) -> Result<Option<String>, String> {
     let said = String::from_utf8_lossy(&ran.stderr);
     match ran.status.code() {
         Some(0) if said.is_empty() => Ok(Some(String::from_utf8_lossy(&ran.stdout).into_owned())),
-        Some(1) if said.contains("and a trace has at most 4096") && ran.stdout.is_empty() => Ok(None),
+        Some(1) if said.contains(&format!("and a trace has at most {MOST}")) && ran.stdout.is_empty() => Ok(None),
         _ => Err(format!("bin/witness {name} {a} {b}: {}, {said}", ran.status)),
     }
 }
@@ -73,7 +71,7 @@ fn read(trace: &str) -> Result<(Settings, Vec<u32>), String> {
 }
 
 /// The list for A and B is as long as it is to be, reaches its figure exactly, and does not without its last read. All its calls
-/// are accepted, but for the last where that is to get a 9.
+/// are accepted, but for the last of `nine`, which gets 9 with one slot less than suffices.
 fn reaches(figure: &Figure, a: u64, b: u64, counts: &mut Counts) -> Result<(), String> {
     let wrong = |what: &str| format!("bin/witness {} {a} {b}: {what}", figure.name);
     let trace = written(figure.name, a, b)?.ok_or_else(|| wrong("no trace"))?;
@@ -83,11 +81,14 @@ fn reaches(figure: &Figure, a: u64, b: u64, counts: &mut Counts) -> Result<(), S
         return Err(wrong(&format!("another list: {s:?}, {} steps", steps.len())));
     }
     let ran = run(s, std::slice::from_ref(&steps), counts)?;
-    let refused = u64::from(figure.name == "nine");
-    if (figure.had)(&ran) != (figure.due)(&s)
-        || ran.numbers.iter().filter(|&&number| number != 0).count() as u64 != refused
-    {
-        return Err(wrong(&format!("{:?} with {s:?}, due {}", ran.most, (figure.due)(&s))));
+    let nine = figure.name == "nine";
+    if nine && u64::from(s.q) + 1 != 2 * s.figure() {
+        return Err(wrong(&format!("another number of slots: {s:?}")));
+    }
+    let (last, others) = ran.numbers.split_last().ok_or_else(|| wrong("no steps"))?;
+    let accepted = others.iter().all(|&number| number == 0) && *last == if nine { 9 } else { 0 };
+    if !accepted || (figure.had)(&ran) != (figure.due)(&s) {
+        return Err(wrong(&format!("{:?} with {s:?}, due {}, last answer {last}", ran.most, (figure.due)(&s))));
     }
     let last = steps.iter().rposition(|&step| step != TICK).ok_or_else(|| wrong("no read"))?;
     let short = [&steps[..last], &steps[last + 1..]].concat();
