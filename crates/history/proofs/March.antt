@@ -197,7 +197,7 @@ module _ {b m : ℕ} (W : Round b m) where
         on .0,
         (
           on .1 .0,
-          go (fits i T low) (zero-lt-suc m) (due i T low) (free i T low here) (omega (arith, T .passed)) (head-is i T low here)
+          go (fits i T low) (due i T low) (zero-lt-suc m) (free i T low here) (omega (arith, T .passed)) (head-is i T low here)
               (T .vacant (P .head) (omega (arith, head-is i T low here))) (on .1 .1),
         ),
       )

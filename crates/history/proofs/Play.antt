@@ -53,7 +53,7 @@ pub data Play (S : Settings) : Picture → List Part → List Course → Picture
       → P .estimates (placeIn S P r) + n < S .a
       → Play S (afterReads S P r n used acts) ps fs P′ → Play S P (reads r n ∷ ps) (stays ∷ fs) P′
   go : {P P′ : Picture} {ps : List Part} {fs : List Course} {r n d v : ℕ} {used acts : ℕ → ℕ} → Fits S P r n used acts
-      → 0 < n → P .estimates (placeIn S P r) + n ≡ S .a
+      → P .estimates (placeIn S P r) + n ≡ S .a → 0 < n
       → plusAt (placeIn S P r) n (P .estimates) (S .n + P .head) < S .a → P .passed + 1 ≤ S .q
       → P .head ≡ d → P .reverse (P .head) ≡ v
       → Play S (afterQuarantine S (afterReads S P r n used acts) r) ps fs P′ → Play S P (reads r n ∷ ps) (goes d v ∷ fs) P′
@@ -68,8 +68,8 @@ module _ {S : Settings} where
   played done K = record { told-is = refl; known = K }
   played (tick rest) K = let R = one-tick K in joined R (played rest (R .known))
   played (stay {r = r} {n = n} F low rest) K = let R = read-stays S r n K F low in joined R (played rest (R .known))
-  played (go {n = zero} F some due free room at held rest) K = absurd (omega arith)
-  played (go {P = P} {r = r} {n = suc n} {d = d} {v = v} {used = used} {acts = acts} F some due free room at held rest) {σ} K =
+  played (go {n = zero} F due some free room at held rest) K = absurd (omega arith)
+  played (go {P = P} {r = r} {n = suc n} {d = d} {v = v} {used = used} {acts = acts} F due some free room at held rest) {σ} K =
       let R = read-goes S r n K F due free room in
       let P″ : Picture = afterQuarantine S (afterReads S P r (suc n) used acts) r in
       let R′ : Leads S σ (replicate (suc n) (readOf r)) (replicate n (onStay r) ++ onAccess r d v ∷ []) P″ =
@@ -88,7 +88,7 @@ module _ {S : Settings} where
   then done next = next
   then (tick rest) next = tick (then rest next)
   then (stay F low rest) next = stay F low (then rest next)
-  then (go F some due free room at held rest) next = go F some due free room at held (then rest next)
+  then (go F due some free room at held rest) next = go F due some free room at held (then rest next)
   then (want F due full rest) next = want F due full (then rest next)
 
 -- ---- the tally

@@ -36,11 +36,11 @@ module _ {S : Settings} {P : Picture} {r n : ℕ} (u : ℕ) (fit : (ltb r (S .n)
       → Play S (afterReads S P r n (λ c. u) (λ c. P .acts c + n)) ps fs P′ → Play S P (reads r n ∷ ps) (stays ∷ fs) P′
   stay-at low rest = stay fits low rest
 
-  pub go-at : {P′ : Picture} {ps : List Part} {fs : List Course} {d v : ℕ} → 0 < n → P .estimates (placeIn S P r) + n ≡ S .a
+  pub go-at : {P′ : Picture} {ps : List Part} {fs : List Course} {d v : ℕ} → P .estimates (placeIn S P r) + n ≡ S .a → 0 < n
       → plusAt (placeIn S P r) n (P .estimates) (S .n + P .head) < S .a → ltb (P .passed) (S .q) ≡ true
       → P .head ≡ d → P .reverse (P .head) ≡ v
       → Play S (afterQuarantine S (afterReads S P r n (λ c. u) (λ c. P .acts c + n)) r) ps fs P′ → Play S P (reads r n ∷ ps) (goes d v ∷ fs) P′
-  go-at some due free room at held rest = go fits some due free (omega (arith, ltb-true (P .passed) (S .q) room)) at held rest
+  go-at due some free room at held rest = go fits due some free (omega (arith, ltb-true (P .passed) (S .q) room)) at held rest
 
 -- ---- the courses of the lists
 
