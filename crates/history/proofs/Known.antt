@@ -1,4 +1,5 @@
--- A memory that is known: what the tables hold, where the head is, and the estimate of every place. How it changes, and a tick.
+-- A memory that is known: what the tables hold, where the head is, and the estimate of every place. How that changes with reads,
+-- a quarantine and a tick, and what set-up leaves.
 -- Assumes nothing.
 use Prim.Native.Nat.{ℕ, _+_, _%_, _<_, _≤_, zero-le}
 use native.Mathlib.Omega.{arith}
@@ -19,8 +20,8 @@ use Rattle.history.specs.Tally.{Tally, start}
 use Rattle.history.proofs.Invariant.{Inv}
 use Rattle.history.proofs.History.{set-up-new, inv-set-up}
 
--- forward and reverse entries; `head` and `passed`; the estimate of every place; of each bank, at most how many entries have
--- counted, and how many accesses
+-- what is known of it: forward and reverse entries; `head` and `passed`; the estimate of every place; for each bank a bound on the
+-- entries that have counted, and one on the accesses
 pub record Picture : Type 0 where
   pub forward : ℕ → ℕ
   pub reverse : ℕ → ℕ

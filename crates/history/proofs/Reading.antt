@@ -114,7 +114,7 @@ plus-here p n f = rw (eq-eqb p p refl)
 plus-twice : (p m n : ℕ) (f : ℕ → ℕ) (x : ℕ) → plusAt p n (plusAt p m f) x ≡ plusAt p (m + n) f x
 plus-twice p m n f x = elim (eq? x p) [ inl e ↦ rw (eq-eqb x p e) (omega arith) | inr k ↦ rw (ne-eqb x p k) ]
 
--- plusAt to at most what g has
+-- f with n more at p is at most g
 plus-most : (p n : ℕ) (f g : ℕ → ℕ) → ((c : ℕ) → f c ≤ g c) → f p + n ≤ g p → (c : ℕ) → plusAt p n f c ≤ g c
 plus-most p n f g kept more c =
     elim (eq? c p) [
@@ -123,7 +123,7 @@ plus-most p n f g kept more c =
     ]
 
 module _ (S : Settings) (r : ℕ) where
-  -- after n of n + 1 reads; the entries that have counted: where there are none, those of before; the accesses: counted exactly
+  -- After n of n + 1 reads: the entries that have counted, which are those of before where n is 0; the accesses; the picture
   abbrev usedBy : Picture → ℕ → (ℕ → ℕ) → ℕ → ℕ
   usedBy P n used = λ c. cond (eqb n 0) (P .used c) (used c)
 
