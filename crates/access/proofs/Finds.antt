@@ -1,265 +1,264 @@
 -- What the code finds before the bytes is what the steps say, and all that its calls ask. Assumes nothing.
-use Prim.Native.Nat.{ℕ, _+_, _-_, _*_, _<_, _≤_}
-use native.Mathlib.Nat.{add-sub-of-le, mul-le-mul}
+use Prim.Native.Nat.{ℕ, _+_, _*_, _<_, _≤_}
 use native.Mathlib.Omega.{arith}
 use mathlib.Core.Path.{_≡_, sym, ap, _∙_}
 use mathlib.Core.Logic.{inl, inr, _≢_}
 use mathlib.Core.Bool.{Bool, true, false}
-use mathlib.Core.List.{List}
-use lib.ListN.{length, getD}
+use lib.Dec.{eqb}
+use lib.ListN.{length}
+use borrow.Author.Tests.{eqb-true, eqb-false}
 use Rattle.geometry.specs.declared.Settings.{Settings}
 use Rattle.geometry.specs.declared.ForwardEntry.{ForwardEntry}
 use Rattle.geometry.specs.declared.PhysicalRow.{PhysicalRow}
-use Rattle.geometry.specs.Numbering.{physical}
+use Rattle.geometry.specs.Numbering.{visible, slot, physical}
+use Rattle.geometry.specs.Entry.{forwardEntryOf}
+use Rattle.geometry.specs.Place.{placeBy}
 use Rattle.geometry.proofs.Cases.{lt?}
-use Rattle.banks.specs.Portions.{portion}
-use Rattle.banks.specs.Banks.{mostBanks, bankOf}
-use Rattle.banks.proofs.Portions.{portion-fits, length-portion, getD-portion}
+use Rattle.banks.specs.declared.Bank.{Bank}
+use Rattle.banks.specs.Banks.{mostBanks, bankOf, bankWith}
+use Rattle.banks.proofs.Portions.{portion-fits}
 use Rattle.banks.proofs.Banks.{bank-in}
-use Rattle.scan.proofs.Loops.{counts-below}
 use Rattle.tracking.specs.Track.{isDue}
 use Rattle.tracking.proofs.Due.{due-some}
-use Rattle.tracking.specs.Entry.{entryIn, estimateAt, tableAfter, spillAfter}
+use Rattle.tracking.specs.Entry.{tableAfter, spillAfter}
 use Rattle.tracking.proofs.Banks.{entry-in-bank, estimate-in, spill-in, rows-in, counts-in}
-use Rattle.engine.specs.State.{State, Tracker, trackerAt, forwardOf}
-use Rattle.engine.specs.Steps.{placeBy, place, tracked, counted, moves, skipped}
-use Rattle.engine.specs.Ladder.{rowNumber, tickNumber}
+use Rattle.tracker.specs.declared.Update.{Update}
+use Rattle.tracker.specs.Finding.{entryFor, updateOf, Findable, Countable}
+use Rattle.tracker.proofs.Counts.{countable}
+use Rattle.engine.specs.declared.Asked.{Asked}
+use Rattle.engine.specs.State.{State, ringOf, forwardOf}
+use Rattle.engine.specs.Steps.{place, tracked, counted, moves, skipped}
+use Rattle.engine.specs.Ladder.{rowUnsound, rowNumber, tickNumber}
 use Rattle.engine.proofs.Rungs.{pass}
-use Rattle.engine.proofs.Facts.{pointersHold, row-facts, place-below}
-use Rattle.seek.specs.Seeking.{skippedBefore, Seekable}
+use Rattle.engine.proofs.Facts.{row-facts, place-below}
 use Rattle.seek.proofs.Before.{skipped-before}
-use Rattle.ladder.proofs.Stages.{earlyNumber, Checked, checked}
-use Rattle.access.specs.declared.Found.{Found}
-use Rattle.access.specs.Answers.{Followable}
+use Rattle.ladder.proofs.Stages.{Checked, checked}
+use Rattle.verdict.specs.declared.Found.{Found}
+use Rattle.verdict.specs.Verdicts.{skippedFor, Decidable}
+use Rattle.verdict.proofs.Judged.{access-8}
+use Rattle.access.specs.Answers.{Servable}
+use Rattle.access.proofs.Refuses.{Stops, Passed}
 
--- ---- the stages of an access; off: whether 6 applies, e: the row's forward entry, p: its place
+-- what is found of row r
+abbrev pub foundWith : ℕ → ForwardEntry → PhysicalRow → Bank → Update → Found
+foundWith r entry place bank update =
+    record { row = visible r; entry = entry; place = place; bank = bank; update = update }
 
--- past 1 to 7
-pub record Entered (S : Settings) (σ : State) (r : ℕ) (off : Bool) (e : ForwardEntry) : Type 0 where
-  pub early-0 : earlyNumber S σ r off ≡ 0
-  pub entry-is : e .0 ≡ forwardOf σ r
-
--- the bank of the place is found
-pub record Banked (S : Settings) (σ : State) (r : ℕ) (off : Bool) (e : ForwardEntry) (p : PhysicalRow) (bank : ℕ) : Type 0 where
-  pub entered : Entered S σ r off e
-  pub placed : p ≡ physical (placeBy S (e .0) r)
-  pub banked : bank ≡ bankOf S (p .0)
-
--- past 8, and step 2 is found
-pub record Seen (S : Settings) (σ : State) (r : ℕ) (off : Bool) (e : ForwardEntry) (f : Found) : Type 0 where
-  pub banked : Banked S σ r off e (f .place) (f .bank)
-  pub spilled : f .spill ≡ getD (σ .control .spill) (f .bank) 0
-  pub acted : f .acts ≡ getD (σ .control .acts) (f .bank) 0
-  pub more : f .acts ≢ S .l
-  pub found : f .entry ≡ entryIn (S .k) (f .bank) (f .place .0) (σ .rows) (σ .counts) (f .spill)
-  pub estimated : f .estimate ≡ estimateAt (f .entry) (f .bank * S .k + S .k) (σ .counts)
+-- as the steps have it
+abbrev pub foundOf : Settings → State → ℕ → Found
+foundOf S σ r =
+    let bank : Bank = bankWith (σ .control) (bankOf S (place S σ r)) in
+    let entry : ℕ = entryFor (S .k) bank (place S σ r) (σ .rows) (σ .counts) in
+    foundWith r (forwardEntryOf (slot (forwardOf σ r))) (physical (place S σ r)) bank (updateOf entry (S .k) bank (σ .counts))
 
 -- ---- past 1 to 7
 
-module _ {S : Settings} {σ : State} {r : ℕ} {off : Bool} {e : ForwardEntry} (E : Entered S σ r off e) where
-  past : (tickNumber S σ ≡ 0) × (rowNumber S (σ .reverse) (forwardOf σ r) r off ≡ 0)
-  past = pass _ _ (E .early-0)
+module _ {S : Settings} {σ : State} {a : Asked} (P : Passed S σ a) where
+  abbrev r : ℕ
+  r = a .row
+
+  -- the place and its bank
+  abbrev p : ℕ
+  p = place S σ r
+
+  abbrev c : ℕ
+  c = bankOf S p
+
+  abbrev f : Found
+  f = foundOf S σ r
+
+  past : (tickNumber S σ ≡ 0) × (rowNumber S (σ .tables) a ≡ 0)
+  past = pass _ _ (P .early-0)
 
   pub fits : Checked S σ
   fits = checked S σ (past .0)
 
-  row-holds : (r < S .n) × (off ≡ false) × (pointersHold S σ r ≡ true)
-  row-holds = row-facts S (σ .reverse) (forwardOf σ r) r off (past .1)
+  row-holds : (r < S .n) × (a .off ≡ false) × (rowUnsound S (σ .tables) r ≡ false)
+  row-holds = row-facts S (σ .tables) a (past .1)
 
   pub row-small : r < 60000
   row-small = omega (arith, row-holds .0, fits .ranges .n-high)
 
-  -- what `bank_of` asks, of the place that step 1 gives
-  pub bankable : {p : PhysicalRow} → p ≡ physical (placeBy S (e .0) r) → (1 ≤ S .b) × (p .0 < 65536)
-  bankable placed =
-      let at : _ ≡ physical (place S σ r) = placed ∙ ap (λ (x : ℕ). physical (placeBy S x r)) (E .entry-is) in
-      let low : place S σ r < S .n + S .q = place-below S σ r (fits .ranges) (row-holds .0) (row-holds .2) in
-      (fits .ranges .b-low, rw at (omega (arith, low, fits .ranges .n-high, fits .ranges .q-high)))
+  place-small : p < 65536
+  place-small =
+      omega (arith, place-below S σ r (fits .ranges) (row-holds .0) (row-holds .2), fits .ranges .n-high, fits .ranges .q-high)
 
--- ---- the bank of the place
+  c-in : c < S .b
+  c-in = bank-in S p (fits .ranges .b-low)
 
-module _ {S : Settings} {σ : State} {r : ℕ} {off : Bool} {e : ForwardEntry} {p : PhysicalRow} {bank : ℕ}
-    (B : Banked S σ r off e p bank) where
-  abbrev place-bank : ℕ
-  place-bank = bankOf S (place S σ r)
+  pub bank-small : c < mostBanks
+  bank-small = omega (arith, c-in, fits .ranges .b-high)
 
-  good : Checked S σ
-  good = fits (B .entered)
+  rows-room : c * S .k + S .k ≤ length (σ .rows)
+  rows-room = portion-fits (S .k) (S .b) c (length (σ .rows)) (fits .lengths .rows) c-in
 
-  place-bank-in : place-bank < S .b
-  place-bank-in = bank-in S (place S σ r) (good .ranges .b-low)
+  counts-room : c * S .k + S .k ≤ length (σ .counts)
+  counts-room = portion-fits (S .k) (S .b) c (length (σ .counts)) (fits .lengths .counts) c-in
 
-  rows-room : place-bank * S .k + S .k ≤ length (σ .rows)
-  rows-room = portion-fits (S .k) (S .b) place-bank (length (σ .rows)) (good .lengths .rows) place-bank-in
+  -- ---- step 2
 
-  counts-room : place-bank * S .k + S .k ≤ length (σ .counts)
-  counts-room = portion-fits (S .k) (S .b) place-bank (length (σ .counts)) (good .lengths .counts) place-bank-in
+  pub estimate-is : f .update .estimate ≡ (tracked S σ r) .estimate
+  estimate-is = estimate-in (S .k) c (σ .rows) (σ .counts) rows-room counts-room p (f .bank .spill)
 
-  pub place-is : p ≡ physical (place S σ r)
-  place-is = B .placed ∙ ap (λ (x : ℕ). physical (placeBy S x r)) (B .entered .entry-is)
-
-  pub bank-is : bank ≡ place-bank
-  bank-is = B .banked ∙ ap (λ (x : PhysicalRow). bankOf S (x .0)) place-is
-
-  pub bank-small : bank < mostBanks
-  bank-small = omega (arith, bank-is, place-bank-in, good .ranges .b-high)
-
-  place-small : p .0 < 65536
-  place-small = bankable (B .entered) (B .placed) .1
-
-  -- what `find` asks
-  pub findable : (p .0 < 65536) × (bank * S .k + S .k ≤ length (σ .rows)) × (bank * S .k + S .k ≤ length (σ .counts))
-  findable = (place-small, rw bank-is rows-room, rw bank-is counts-room)
-
-  -- where the bank's entries end
-  pub end-small : bank * S .k + S .k ≤ 69632
-  end-small =
-      let few : bank ≤ 16 = omega (arith, bank-small) in
-      omega (arith, mul-le-mul few (good .ranges .k-high), good .ranges .k-high)
-
-  abbrev t : Tracker
-  t = trackerAt S σ (place S σ r)
-
-  -- acts, spill: the bank's numbers
-  pub acts-are : {acts : ℕ} → acts ≡ getD (σ .control .acts) bank 0 → acts ≡ t .acts
-  acts-are acted = acted ∙ ap (λ (c : ℕ). getD (σ .control .acts) c 0) bank-is
-
-  module _ {spill : ℕ} (spilled : spill ≡ getD (σ .control .spill) bank 0) where
-    spill-is : spill ≡ t .spill
-    spill-is = spilled ∙ ap (λ (c : ℕ). getD (σ .control .spill) c 0) bank-is
-
-    spill-small : spill < 65536
-    spill-small = omega (arith, spill-is, good .steady .banks place-bank place-bank-in .spill-below, good .ranges .a-high)
-
-    -- i: the entry that step 2 changes
-    module _ {i : ℕ} (found : i ≡ entryIn (S .k) bank (p .0) (σ .rows) (σ .counts) spill) where
-      entry-found : i ≡ entryIn (S .k) place-bank (place S σ r) (σ .rows) (σ .counts) (t .spill)
-      entry-found =
-          found ∙ ap (λ (x : PhysicalRow). entryIn (S .k) bank (x .0) (σ .rows) (σ .counts) spill) place-is
-          ∙ ap (λ (c : ℕ). entryIn (S .k) c (place S σ r) (σ .rows) (σ .counts) spill) bank-is
-          ∙ ap (entryIn (S .k) place-bank (place S σ r) (σ .rows) (σ .counts)) spill-is
-
-      entry-low : place-bank * S .k ≤ i
-      unfolding entryIn
-      entry-low = omega (arith, entry-found)
-
-      -- a count of the bank can rise by 1
-      count-fits : i < place-bank * S .k + S .k → getD (σ .counts) i 0 < 4294967295
-      count-fits high =
-          let mine : List ℕ = portion (S .k) place-bank (σ .counts) in
-          let j : ℕ = i - place-bank * S .k in
-          let at : place-bank * S .k + j ≡ i = add-sub-of-le entry-low in
-          let inside : j < S .k = omega arith in
-          let long : j < length mine = omega (arith, length-portion (S .k) place-bank (σ .counts) counts-room) in
-          let low : getD mine j 0 ≤ 4294967294 = counts-below mine 4294967294 j (good .counts place-bank place-bank-in) long in
-          let same : getD mine j 0 ≡ getD (σ .counts) i 0 =
-          getD-portion (S .k) place-bank (σ .counts) counts-room j 0 inside ∙ ap (λ (x : ℕ). getD (σ .counts) x 0) at in
-          omega (arith, low, same)
-
-      -- what `estimate` asks
-      pub estimable : (bank * S .k + S .k ≤ length (σ .counts)) × (i < bank * S .k + S .k → getD (σ .counts) i 0 < 4294967295)
-      estimable = (rw bank-is counts-room, λ h. count-fits (rw bank-is at h))
-
--- ---- what step 2 finds
-
-module _ {S : Settings} {σ : State} {r : ℕ} {off : Bool} {e : ForwardEntry} {f : Found} (F : Seen S σ r off e f) where
-  here : Banked S σ r off e (f .place) (f .bank)
-  here = F .banked
-
-  -- as the steps have them: the place, its bank, the bank's `spill` and the entry
-  abbrev p₀ : ℕ
-  p₀ = place S σ r
-
-  abbrev c₀ : ℕ
-  c₀ = bankOf S p₀
-
-  abbrev spill₀ : ℕ
-  spill₀ = trackerAt S σ p₀ .spill
-
-  abbrev i₀ : ℕ
-  i₀ = entryIn (S .k) c₀ p₀ (σ .rows) (σ .counts) spill₀
-
-  entry-told : f .entry ≡ i₀
-  entry-told = entry-found here (F .spilled) (F .found)
-
-  estimate-told : f .estimate ≡ estimateAt i₀ (c₀ * S .k + S .k) (σ .counts)
-  estimate-told =
-      F .estimated ∙ ap (λ (c : ℕ). estimateAt (f .entry) (c * S .k + S .k) (σ .counts)) (bank-is here)
-      ∙ ap (λ (x : ℕ). estimateAt x (c₀ * S .k + S .k) (σ .counts)) entry-told
-
-  pub estimate-is : f .estimate ≡ (tracked S σ r) .estimate
-  estimate-is = estimate-told ∙ estimate-in (S .k) c₀ (σ .rows) (σ .counts) (rows-room here) (counts-room here) p₀ spill₀
-
-  pub due-is : isDue (S .a) (f .estimate) ≡ moves S σ r
+  -- what is due
+  pub due-is : isDue (S .a) (f .update .estimate) ≡ moves S σ r
   due-is = ap (isDue (S .a)) estimate-is
 
-  -- what following step 2 leaves
-  pub spill-then : spillAfter (f .estimate) (f .spill) ≡ (tracked S σ r) .spill
-  spill-then =
-      rw (spill-is here (F .spilled), estimate-told)
-      (spill-in (S .k) c₀ (σ .rows) (σ .counts) (rows-room here) (counts-room here) p₀ spill₀)
+  -- what following it leaves
+  pub spill-then : spillAfter (f .update .estimate) (f .bank .spill) ≡ (tracked S σ r) .spill
+  spill-then = spill-in (S .k) c (σ .rows) (σ .counts) rows-room counts-room p (f .bank .spill)
 
-  pub rows-then : tableAfter (f .entry) (f .estimate) (f .place .0) (σ .rows) ≡ (counted S σ r) .rows
-  rows-then =
-      ap (λ (x : PhysicalRow). tableAfter (f .entry) (f .estimate) (x .0) (σ .rows)) (place-is here)
-      ∙ ap (λ (x : ℕ). tableAfter x (f .estimate) p₀ (σ .rows)) entry-told
-      ∙ ap (λ (x : ℕ). tableAfter i₀ x p₀ (σ .rows)) estimate-told
-      ∙ rows-in (S .k) c₀ (σ .rows) (σ .counts) (rows-room here) (counts-room here) p₀ spill₀
+  pub rows-then : tableAfter (f .update .entry) (f .update .estimate) p (σ .rows) ≡ (counted S σ r) .rows
+  rows-then = rows-in (S .k) c (σ .rows) (σ .counts) rows-room counts-room p (f .bank .spill)
 
-  pub counts-then : tableAfter (f .entry) (f .estimate) (f .estimate) (σ .counts) ≡ (counted S σ r) .counts
-  counts-then =
-      ap (λ (x : ℕ). tableAfter x (f .estimate) (f .estimate) (σ .counts)) entry-told
-      ∙ ap (λ (x : ℕ). tableAfter i₀ x x (σ .counts)) estimate-told
-      ∙ counts-in (S .k) c₀ (σ .rows) (σ .counts) (rows-room here) (counts-room here) p₀ spill₀
+  pub counts-then : tableAfter (f .update .entry) (f .update .estimate) (f .update .estimate) (σ .counts) ≡ (counted S σ r) .counts
+  counts-then = counts-in (S .k) c (σ .rows) (σ .counts) rows-room counts-room p (f .bank .spill)
 
-  entry-inside : f .estimate ≢ 0 → f .entry < c₀ * S .k + S .k
-  entry-inside n =
-      rw entry-told
-      (entry-in-bank (S .k) c₀ (σ .rows) (σ .counts) (rows-room here) (counts-room here) p₀ spill₀ (λ z. n (estimate-told ∙ z)))
+  entry-inside : f .update .estimate ≢ 0 → f .update .entry < c * S .k + S .k
+  entry-inside = entry-in-bank (S .k) c (σ .rows) (σ .counts) rows-room counts-room p (f .bank .spill)
 
-  acts-below : f .acts < S .l
-  acts-below =
-      elim (lt? (f .acts) (S .l)) [
-        | inl h ↦ h
-        | inr h ↦
-            let most : trackerAt S σ p₀ .acts ≤ S .l = good here .steady .banks c₀ (place-bank-in here) .acts-in in
-            absurd (F .more (omega (arith, acts-are here (F .acted), most)))
-      ]
+-- ---- the place and its bank, as the code has them
 
-  pub followable : Followable f (σ .rows) (σ .counts)
-  followable =
+pub record Banked (S : Settings) (σ : State) (a : Asked) (e : ForwardEntry) (p : PhysicalRow) (bank : Bank) : Type 0 where
+  pub passed : Passed S σ a
+  pub entered : e ≡ foundOf S σ (a .row) .entry
+  pub placed : p ≡ foundOf S σ (a .row) .place
+  pub banked : bank ≡ foundOf S σ (a .row) .bank
+
+module _ {S : Settings} {σ : State} {a : Asked} (P : Passed S σ a) {e : ForwardEntry} (entered : e .0 ≡ forwardOf σ (a .row))
+    {p : PhysicalRow} (placed : p ≡ physical (placeBy S (e .0) (a .row))) where
+  place-is : p ≡ foundOf S σ (a .row) .place
+  place-is = placed ∙ ap (λ (x : ℕ). physical (placeBy S x (a .row))) entered
+
+  -- what `bank_at` asks
+  pub bankable : (1 ≤ S .b) × (S .b ≤ mostBanks) × (p .0 < 65536)
+  bankable = (fits P .ranges .b-low, fits P .ranges .b-high, rw place-is (place-small P))
+
+  pub bank-found : {bank : Bank} → bank ≡ bankWith (σ .control) (bankOf S (p .0)) → Banked S σ a e p bank
+  bank-found banked =
       record {
-        place-small = place-small here;
-        in-rows = λ n. omega (arith, entry-inside n, rows-room here);
-        in-counts = λ n. omega (arith, entry-inside n, counts-room here);
-        spill-small = spill-small here (F .spilled);
-        acts-small = omega (arith, acts-below, good here .ranges .l-high);
+        passed = P;
+        entered = ap (λ (x : ℕ). forwardEntryOf (slot x)) entered;
+        placed = place-is;
+        banked = banked ∙ ap (λ (x : PhysicalRow). bankWith (σ .control) (bankOf S (x .0))) place-is;
       }
 
-  -- the row is to be quarantined
-  module _ (due : isDue (S .a) (f .estimate) ≡ true) where
-    -- what `quarantine` asks
-    pub seekable : Seekable S (f .entry) (σ .rows) (σ .counts) × (length (σ .forward) ≡ S .n) × (length (σ .reverse) ≡ S .q)
-        × (σ .control .head < S .q) × (σ .control .passed ≤ S .q)
-    seekable = (
-      record {
-        slots-few = good here .ranges .q-high;
-        rows-few = good here .ranges .n-high;
-        some-bank = good here .ranges .b-low;
-        rows-long = good here .lengths .rows;
-        counts-long = good here .lengths .counts;
-        within = followable .in-rows (due-some (S .a) (f .estimate) due);
-      },
-      good here .lengths .forward,
-      good here .lengths .reverse,
-      good here .steady .head-in,
-      good here .steady .passed-in,
-    )
+-- ---- past 8, all that is found
 
-    pub over-is : skippedBefore S (σ .control .head) (e .0) (f .entry) (σ .rows) (σ .counts) ≡ skipped S σ r
-    over-is =
-        let R = good here .ranges in
-        let X = good here .lengths in
-        rw (here .entered .entry-is, entry-told)
-        (skipped-before S σ r (R .b-low) (X .rows) (X .counts) (row-holds (here .entered) .0) (R .n-high) (R .q-high)
-        (sym due-is ∙ due) (good here .steady .head-in))
+pub record Sought (S : Settings) (σ : State) (a : Asked) (f : Found) : Type 0 where
+  pub passed : Passed S σ a
+  pub found : f ≡ foundOf S σ (a .row)
+  -- the bank counts more accesses
+  pub more : foundOf S σ (a .row) .bank .acts ≢ S .l
+
+-- and the row is to be quarantined
+pub record Due (S : Settings) (σ : State) (a : Asked) (f : Found) : Type 0 where
+  pub sought : Sought S σ a f
+  pub due : isDue (S .a) (foundOf S σ (a .row) .update .estimate) ≡ true
+
+module _ {S : Settings} {σ : State} {a : Asked} {e : ForwardEntry} {p : PhysicalRow} {bank : Bank} (B : Banked S σ a e p bank) where
+  -- what `find` asks
+  pub findable : Findable (S .k) bank (p .0) (σ .rows) (σ .counts)
+  findable =
+      let P = B .passed in
+      rw (B .placed, B .banked)
+      (record { place-small = place-small P; in-rows = rows-room P; in-counts = counts-room P; counts-small = fits P .counts _ (c-in P) })
+
+  -- what `update_of` asks; i: the entry of step 2, as the code has it
+  pub countable-there : {i : ℕ} → i ≡ entryFor (S .k) bank (p .0) (σ .rows) (σ .counts) → Countable i (S .k) bank (σ .counts)
+  countable-there found = countable findable found
+
+  -- full: whether 8 applies, as the code has it
+  module _ {full : Bool} (told : full ≡ eqb (bank .acts) (S .l)) where
+    acts-are : foundOf S σ (a .row) .bank .acts ≡ bank .acts
+    acts-are = sym (ap (λ (b : Bank). b .acts) (B .banked))
+
+    pub full-stops : full ≡ true → Stops S σ a 8
+    full-stops met =
+        record { is = access-8 S σ a (B .passed .early-0) (acts-are ∙ eqb-true _ _ (sym told ∙ met)); some = λ z. omega arith }
+
+    -- u: what step 2 changes, as the code has it
+    pub all-found : full ≡ false → {i : ℕ} → i ≡ entryFor (S .k) bank (p .0) (σ .rows) (σ .counts)
+        → {u : Update} → u ≡ updateOf i (S .k) bank (σ .counts) → Sought S σ a (foundWith (a .row) e p bank u)
+    all-found less found updated =
+        record {
+          passed = B .passed;
+          found = rw (updated, found, B .banked, B .placed, B .entered);
+          more = λ z. eqb-false _ _ (sym told ∙ less) (sym acts-are ∙ z);
+        }
+
+module _ {S : Settings} {σ : State} {a : Asked} {f : Found} (K : Sought S σ a f) where
+  abbrev there : Found
+  there = foundOf S σ (a .row)
+
+  -- what `is_due` asks
+  pub due-able : 1 ≤ S .a
+  due-able = fits (K .passed) .ranges .a-low
+
+  -- what comes after the bytes asks
+  pub servable : Servable f (σ .rows) (σ .counts)
+  servable =
+      let P = K .passed in
+      let T = fits P .steady .banks _ (c-in P) in
+      rw (K .found)
+      (record {
+        followable = record {
+          place-small = place-small P;
+          in-rows = λ n. omega (arith, entry-inside P n, rows-room P);
+          in-counts = λ n. omega (arith, entry-inside P n, counts-room P);
+        };
+        spill-small = omega (arith, T .spill-below, fits P .ranges .a-high);
+        acts-small = elim (lt? (there .bank .acts) (S .l)) [
+          | inl h ↦ omega (arith, h, fits P .ranges .l-high)
+          | inr h ↦ absurd (K .more (omega (arith, h, T .acts-in)))
+        ];
+      })
+
+  -- due: whether the row is to be quarantined, as the code has it
+  module _ {due : Bool} (told : due ≡ isDue (S .a) (f .update .estimate)) where
+    is-due : isDue (S .a) (there .update .estimate) ≡ due
+    is-due = sym (ap (λ (x : Found). isDue (S .a) (x .update .estimate)) (K .found)) ∙ sym told
+
+    pub rests : due ≡ false → moves S σ (a .row) ≡ false
+    rests not-so = sym (due-is (K .passed)) ∙ is-due ∙ not-so
+
+    pub falls-due : due ≡ true → Due S σ a f
+    falls-due so = record { sought = K; due = is-due ∙ so }
+
+-- ---- the row is to be quarantined
+
+module _ {S : Settings} {σ : State} {a : Asked} {f : Found} (D : Due S σ a f) where
+  abbrev P : Passed S σ a
+  P = D .sought .passed
+
+  pub goes : moves S σ (a .row) ≡ true
+  goes = sym (due-is P) ∙ D .due
+
+  -- what `decide` asks
+  pub decidable : Decidable S (ringOf (σ .control)) f (σ .tables .forward) (σ .tables .reverse) (σ .rows) (σ .counts)
+  decidable =
+      let R = fits P .ranges in
+      let X = fits P .lengths in
+      rw (D .sought .found)
+      (record {
+        seekable = record {
+          slots-few = R .q-high;
+          rows-few = R .n-high;
+          some-bank = R .b-low;
+          rows-long = X .rows;
+          counts-long = X .counts;
+          within = omega (arith, entry-inside P (due-some (S .a) _ (D .due)), rows-room P);
+        };
+        tabled = record { rows-few = R .n-high; slots-few = R .q-high; forward-long = X .forward; reverse-long = X .reverse };
+        head-in = fits P .steady .head-in;
+        passed-in = fits P .steady .passed-in;
+      })
+
+  -- what it tells before step 2 is what the steps say
+  pub over-is : skippedFor S (ringOf (σ .control)) f (σ .rows) (σ .counts) ≡ skipped S σ (a .row)
+  over-is =
+      let R = fits P .ranges in
+      let X = fits P .lengths in
+      rw (D .sought .found)
+      (skipped-before S σ (a .row) (R .b-low) (X .rows) (X .counts) (row-holds P .0) (R .n-high) (R .q-high) goes
+      (fits P .steady .head-in))

@@ -1,4 +1,4 @@
+pub mod Refuses
 pub mod Finds
 pub mod Takes
-pub mod Refuses
 pub mod Serves

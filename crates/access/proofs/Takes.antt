@@ -1,108 +1,87 @@
 -- An access that is accepted: what is decided of it, and what the calls that serve it ask. Assumes nothing.
 use Prim.Native.Nat.{ℕ, _+_, _*_, _<_, _≤_}
 use native.Mathlib.Omega.{arith}
-use mathlib.Core.Path.{_≡_, sym, ap, _∙_}
+use mathlib.Core.Path.{_≡_, refl, sym, ap, _∙_}
 use mathlib.Core.Logic.{inl, inr, _≢_}
 use mathlib.Core.Bool.{Bool, true, false}
 use mathlib.Core.List.{List}
 use lib.ListN.{length}
 use borrow.Author.Tests.{eq-eqb, ne-eqb}
 use Rattle.geometry.specs.declared.Settings.{Settings}
-use Rattle.geometry.specs.declared.ForwardEntry.{ForwardEntry}
-use Rattle.geometry.specs.declared.PhysicalRow.{PhysicalRow}
-use Rattle.geometry.specs.Numbering.{physical}
 use Rattle.geometry.specs.Entry.{empty}
 use Rattle.conditions.proofs.Facts.{Ranges, Exact, ranges-facts, lengths-facts}
 use Rattle.tracking.specs.Track.{isDue}
 use Rattle.row_layout.proofs.Laws.{row-before}
-use Rattle.engine.specs.State.{State, trackerAt, ringOf, storageOf, lengthsOf, forwardOf, reverseOf}
-use Rattle.engine.specs.Steps.{place, moves, skipped, destination, riseTo, rise}
+use Rattle.engine.specs.declared.Asked.{Asked}
+use Rattle.engine.specs.State.{State, Storage, ringOf, lengthsOf, forwardOf, reverseOf}
+use Rattle.engine.specs.Steps.{place, moves, skipped, destination, rise}
 use Rattle.engine.specs.Ladder.{accessNumber}
 use Rattle.engine.proofs.Facts.{Accepted, accepted, Steady, steady, row-sound, slot-sound, place-below, RowSound}
 use Rattle.engine.proofs.Moves.{destination-in, slide, rise-to, not-own}
-use Rattle.seek.specs.Seeking.{skippedBefore}
+use Rattle.verdict.specs.declared.Found.{Found}
 use Rattle.verdict.specs.declared.Verdict.{Verdict}
-use Rattle.verdict.specs.Verdicts.{quarantineVerdict}
-use Rattle.verdict.proofs.Judged.{access-stays, access-moves, verdict-stops, verdict-goes}
+use Rattle.verdict.specs.Verdicts.{sent, quarantineVerdict, skippedFor}
+use Rattle.verdict.proofs.Judged.{access-stays, access-moves, verdict-stops, verdict-sent}
 use Rattle.settle.specs.Settling.{Movable}
-use Rattle.access.specs.declared.Found.{Found}
-use Rattle.access.proofs.Finds.{Seen, place-is, acts-are, due-is, over-is}
+use Rattle.access.proofs.Refuses.{Stops}
+use Rattle.access.proofs.Finds.{Sought, Due, rests, goes, over-is}
 
--- ---- what is decided of the row
+-- where a row that is quarantined goes, as the steps have it
+abbrev pub sentTo : Settings → State → ℕ → Verdict
+sentTo S σ r = let d : ℕ = destination S σ r in sent d (reverseOf σ d) (rise S σ r)
 
--- it stays
-pub record Stays (S : Settings) (σ : State) (r : ℕ) (off : Bool) (e : ForwardEntry) (f : Found) : Type 0 where
-  pub seen : Seen S σ r off e f
-  pub not-due : isDue (S .a) (f .estimate) ≡ false
+-- the storage before an access, with the bytes in the store
+abbrev pub withStore : State → List ℕ → Storage
+withStore σ store = record { store = store; tables = σ .tables; ring = ringOf (σ .control) }
+
+-- an access that is accepted; due: whether its row is quarantined
+pub record Taken (S : Settings) (σ : State) (a : Asked) (f : Found) (due : Bool) : Type 0 where
+  pub sought : Sought S σ a f
+  pub number-0 : accessNumber S σ a ≡ 0
+  pub moved : moves S σ (a .row) ≡ due
+
+-- and goes where the verdict v says
+pub record Going (S : Settings) (σ : State) (a : Asked) (f : Found) (v : Verdict) : Type 0 where
+  pub taken : Taken S σ a f true
+  pub sent-there : v ≡ sentTo S σ (a .row)
+
+-- the row stays
+pub stays : {S : Settings} {σ : State} {a : Asked} {f : Found} → Sought S σ a f
+    → {due : Bool} → due ≡ isDue (S .a) (f .update .estimate) → due ≡ false → Taken S σ a f false
+stays {S} {σ} {a} K told not-so =
+    let still = rests K told not-so in
+    record { sought = K; number-0 = access-stays S σ a (K .passed .early-0) (K .more) still; moved = still }
 
 -- it is to be quarantined; v: the verdict of that
-pub record Judged (S : Settings) (σ : State) (r : ℕ) (off : Bool) (e : ForwardEntry) (f : Found) (v : Verdict) : Type 0 where
-  pub seen : Seen S σ r off e f
-  pub due : isDue (S .a) (f .estimate) ≡ true
-  pub told : v ≡ quarantineVerdict S (ringOf (σ .control)) (σ .forward) (σ .reverse)
-      (skippedBefore S (σ .control .head) (e .0) (f .entry) (σ .rows) (σ .counts))
+module _ {S : Settings} {σ : State} {a : Asked} {f : Found} (D : Due S σ a f) {v : Verdict}
+    (decided : v ≡ quarantineVerdict S (ringOf (σ .control)) (σ .tables) (skippedFor S (ringOf (σ .control)) f (σ .rows) (σ .counts))) where
+  verdict-is : v ≡ quarantineVerdict S (ringOf (σ .control)) (σ .tables) (skipped S σ (a .row))
+  verdict-is = decided ∙ ap (quarantineVerdict S (ringOf (σ .control)) (σ .tables)) (over-is D)
 
--- and it is
-pub record Goes (S : Settings) (σ : State) (r : ℕ) (off : Bool) (e : ForwardEntry) (f : Found) (v : Verdict) : Type 0 where
-  pub judged : Judged S σ r off e f v
-  pub passes : v .number ≡ 0
+  -- the verdict's number is the ladder's
+  last-is : v .number ≡ accessNumber S σ a
+  last-is =
+      verdict-stops S (ringOf (σ .control)) (σ .tables) (skipped S σ (a .row)) v verdict-is
+      ∙ access-moves S σ a (D .sought .passed .early-0) (D .sought .more) (goes D)
 
--- the access is accepted; p: the row's place
-pub record Taken (S : Settings) (σ : State) (r : ℕ) (off : Bool) (e : ForwardEntry) (p : PhysicalRow) : Type 0 where
-  pub number-0 : accessNumber S σ r off ≡ 0
-  pub entered : e .0 ≡ forwardOf σ r
-  pub placed : p ≡ physical (place S σ r)
+  pub last-stops : v .number ≢ 0 → Stops S σ a (v .number)
+  last-stops n = record { is = last-is; some = n }
 
-module _ {S : Settings} {σ : State} {r : ℕ} {off : Bool} {e : ForwardEntry} {f : Found} where
-  -- 8 does not apply
-  not-8 : Seen S σ r off e f → trackerAt S σ (place S σ r) .acts ≢ S .l
-  not-8 F z = F .more (acts-are (F .banked) (F .acted) ∙ z)
-
-  pub stays : Stays S σ r off e f → moves S σ r ≡ false
-  stays H = sym (due-is (H .seen)) ∙ H .not-due
-
-  pub stays-taken : Stays S σ r off e f → Taken S σ r off e (f .place)
-  stays-taken H =
-      let B = H .seen .banked in
+  pub going : v .number ≡ 0 → Going S σ a f v
+  going z =
       record {
-        number-0 = access-stays S σ r off (B .entered .early-0) (not-8 (H .seen)) (stays H);
-        entered = B .entered .entry-is;
-        placed = place-is B;
+        taken = record { sought = D .sought; number-0 = sym last-is ∙ z; moved = goes D };
+        sent-there = verdict-sent S (ringOf (σ .control)) (σ .tables) (skipped S σ (a .row)) v verdict-is z;
       }
-
-  module _ {v : Verdict} (J : Judged S σ r off e f v) where
-    pub goes : moves S σ r ≡ true
-    goes = sym (due-is (J .seen)) ∙ J .due
-
-    verdict-is : v ≡ quarantineVerdict S (ringOf (σ .control)) (σ .forward) (σ .reverse) (skipped S σ r)
-    verdict-is =
-        J .told
-        ∙ ap (quarantineVerdict S (ringOf (σ .control)) (σ .forward) (σ .reverse)) (over-is (J .seen) (J .due))
-
-    -- the verdict's number is the ladder's
-    pub last-is : v .number ≡ accessNumber S σ r off
-    last-is =
-        verdict-stops S (ringOf (σ .control)) (σ .forward) (σ .reverse) (skipped S σ r) v verdict-is
-        ∙ access-moves S σ r off (J .seen .banked .entered .early-0) (not-8 (J .seen)) goes
-
-  module _ {v : Verdict} (G : Goes S σ r off e f v) where
-    pub goes-taken : Taken S σ r off e (f .place)
-    goes-taken =
-        let B = G .judged .seen .banked in
-        record { number-0 = sym (last-is (G .judged)) ∙ G .passes; entered = B .entered .entry-is; placed = place-is B }
-
-    -- the slot moved to, its reverse entry, and the rise of `passed`
-    pub target-is : (v .d .0 ≡ destination S σ r) × (v .held .0 ≡ reverseOf σ (destination S σ r)) × (v .up ≡ rise S σ r)
-    target-is =
-        let is = verdict-is (G .judged) in
-        let there = verdict-goes S (ringOf (σ .control)) (σ .forward) (σ .reverse) (skipped S σ r) v is (G .passes) in
-        (there .1, there .2, there .3)
 
 -- ---- what the calls ask that serve an accepted access
 
-module _ {S : Settings} {σ : State} {r : ℕ} {off : Bool} {e : ForwardEntry} {p : PhysicalRow} (T : Taken S σ r off e p) where
-  A : Accepted S σ r off
-  A = accepted S σ r off (T .number-0)
+module _ {S : Settings} {σ : State} {a : Asked} {f : Found} {due : Bool} (T : Taken S σ a f due) where
+  abbrev row : ℕ
+  row = a .row
+
+  A : Accepted S σ a
+  A = accepted S σ a (T .number-0)
 
   R : Ranges S
   R = ranges-facts S (A .reached .fit .ranges)
@@ -113,71 +92,51 @@ module _ {S : Settings} {σ : State} {r : ℕ} {off : Bool} {e : ForwardEntry} {
   K : Steady S σ
   K = steady S σ (A .reached .control)
 
-  pointers : RowSound S σ r
-  pointers = row-sound S σ r (A .reached .pointers)
+  pointers : RowSound S σ row
+  pointers = row-sound S σ row (A .reached .pointers)
 
-  pub span-in : off ≡ false
+  pub span-in : a .off ≡ false
   span-in = A .reached .span-in
 
-  in-place : place S σ r < S .n + S .q
-  in-place = place-below S σ r R (A .reached .row-in) (A .reached .pointers)
-
-  pub place-in : p .0 < S .n + S .q
-  place-in = rw (T .placed) in-place
+  pub place-in : place S σ row < S .n + S .q
+  place-in = place-below S σ row R (A .reached .row-in) (A .reached .pointers)
 
   pub store-long : length (σ .store) ≡ (S .n + S .q) * S .w
   store-long = X .store
 
   -- the row's place lies in the store
-  pub place-inside : p .0 * S .w + S .w ≤ length (σ .store)
-  place-inside = omega (arith, row-before (S .w) (p .0) (S .n + S .q) place-in, X .store)
+  pub place-inside : f .place .0 * S .w + S .w ≤ length (σ .store)
+  place-inside = rw (T .sought .found) (omega (arith, row-before (S .w) (place S σ row) (S .n + S .q) place-in, X .store))
 
-  away : forwardOf σ r ≡ empty → place S σ r < S .n
-  away at = rw (eq-eqb (forwardOf σ r) empty at) (A .reached .row-in)
+  away : forwardOf σ row ≡ empty → place S σ row < S .n
+  away at = rw (eq-eqb (forwardOf σ row) empty at) (A .reached .row-in)
 
-  in-slot : forwardOf σ r < S .q → place S σ r ≡ S .n + forwardOf σ r
-  in-slot at = rw (ne-eqb (forwardOf σ r) empty (λ z. omega (arith, R .q-high)))
+  in-slot : forwardOf σ row < S .q → place S σ row ≡ S .n + forwardOf σ row
+  in-slot at = rw (ne-eqb (forwardOf σ row) empty (λ z. omega (arith, R .q-high)))
 
 -- the move is ready; store: with the bytes in the row's place
-module _ {S : Settings} {σ : State} {r : ℕ} {off : Bool} {e : ForwardEntry} {f : Found} {v : Verdict}
-    (G : Goes S σ r off e f v) where
-  taken : Taken S σ r off e (f .place)
-  taken = goes-taken G
-
-  pub movable : (store : List ℕ) → length store ≡ length (σ .store)
-      → Movable S r (e .0) (f .place .0) (v .d .0) (v .held .0) (v .up)
-      (storageOf store (σ .forward) (σ .reverse) (ringOf (σ .control)))
-  movable store long =
-      let to = target-is G .0 in
-      let was = target-is G .1 in
-      let rises = target-is G .2 in
-      let due : moves S σ r ≡ true = goes (G .judged) in
-      let acc = A taken in
-      let at : f .place .0 ≡ place S σ r = ap (λ (x : PhysicalRow). x .0) (taken .placed) in
-      let room : σ .control .passed + rise S σ r ≤ S .q = acc .room due in
-      let free : destination S σ r ≡ forwardOf σ r → ⊥ =
-      not-own S σ r (destination S σ r) (slide S σ r (K taken .head-in) room .free) in
-      record {
-        sendable = record {
-          ranges = acc .reached .fit .ranges;
-          store-long = long ∙ X taken .store;
-          forward-long = X taken .forward;
-          slot-in = rw to (destination-in S σ r (K taken .head-in));
-          held-in =
-              elim (slot-sound S σ (destination S σ r) (acc .target due)) [
-                | inl z ↦ inl (was ∙ z)
-                | inr c ↦ inr (rw was (c .0))
-              ];
-        };
-        reverse-long = X taken .reverse;
-        row-in = acc .reached .row-in;
-        entry-is = taken .entered;
-        entry-in = elim (pointers taken) [ inl z ↦ inl (taken .entered ∙ z) | inr c ↦ inr (rw (taken .entered) (c .0)) ];
-        place-in = place-in taken;
-        apart = λ z. elim (pointers taken) [
-          | inl a ↦ omega (arith, away taken a, at)
-          | inr c ↦ free (omega (arith, in-slot taken (c .0), at, to))
-        ];
-        rise-is = rises ∙ sym (rise-to S σ r (K taken .head-in) room) ∙ sym (ap (λ (x : ℕ). riseTo S (σ .control .head) x) to);
-        room = omega (arith, room, rises);
-      }
+pub movable : {S : Settings} {σ : State} {a : Asked} {f : Found} {v : Verdict} → Going S σ a f v
+    → {store : List ℕ} → length store ≡ length (σ .store) → Movable S f v (withStore σ store)
+movable {S} {σ} {a} G long =
+    let T = G .taken in
+    let d : ℕ = destination S σ (a .row) in
+    let room : σ .control .passed + rise S σ (a .row) ≤ S .q = A T .room (T .moved) in
+    let free : d ≢ forwardOf σ (a .row) = not-own S σ (a .row) d (slide S σ (a .row) (K T .head-in) room .free) in
+    rw (G .sent-there, T .sought .found)
+    (record {
+      sendable = record {
+        ranges = A T .reached .fit .ranges;
+        store-long = long ∙ X T .store;
+        forward-long = X T .forward;
+        slot-in = destination-in S σ (a .row) (K T .head-in);
+        held-in = elim (slot-sound S σ d (A T .target (T .moved))) [ inl z ↦ inl z | inr c ↦ inr (c .0) ];
+      };
+      reverse-long = X T .reverse;
+      row-in = A T .reached .row-in;
+      entry-is = refl;
+      entry-in = elim (pointers T) [ inl z ↦ inl z | inr c ↦ inr (c .0) ];
+      place-in = place-in T;
+      apart = λ z. elim (pointers T) [ inl e ↦ omega (arith, away T e, z) | inr c ↦ free (omega (arith, in-slot T (c .0), z)) ];
+      rise-is = sym (rise-to S σ (a .row) (K T .head-in) room);
+      room = room;
+    })

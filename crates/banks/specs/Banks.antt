@@ -1,11 +1,11 @@
 -- Document 02, Ask 5: the banks of a rank.
 -- Assumes nothing.
-use Prim.Native.Nat.{ℕ, zero, suc, _%_}
-use mathlib.Core.Bool.{Bool, false, _||_}
-use lib.ListN.{set}
+use Prim.Native.Nat.{ℕ, _%_}
+use lib.ListN.{getD, set}
 use Rattle.geometry.specs.declared.Settings.{Settings}
 use Rattle.geometry.specs.declared.Control.{Control}
 use Rattle.geometry.specs.declared.Ring.{Ring}
+use Rattle.banks.specs.declared.Bank.{Bank}
 
 -- the banks for which the control record has places
 abbrev pub mostBanks : ℕ
@@ -15,17 +15,16 @@ mostBanks = 16
 unfoldable pub bankOf : Settings → ℕ → ℕ
 bankOf S p = p % S .b
 
--- some bank below b passes the test
-unfoldable pub someBank : (ℕ → Bool) → ℕ → Bool
-someBank test zero = false
-someBank test (suc c) = someBank test c || test c
+-- bank c with its numbers, 'the control record holds `spill` and `acts` for each bank'
+abbrev pub bankWith : Control → ℕ → Bank
+bankWith control c = record { index = c; spill = getD (control .spill) c 0; acts = getD (control .acts) c 0 }
 
 -- the control record with another `head` and `passed`, and other numbers of one bank
-abbrev pub withNumbers : Control → Ring → ℕ → ℕ → ℕ → Control
-withNumbers control ring bank spill acts =
+abbrev pub withBank : Control → Ring → Bank → Control
+withBank control ring bank =
     record {
       head = ring .head;
       passed = ring .passed;
-      spill = set (control .spill) bank spill;
-      acts = set (control .acts) bank acts;
+      spill = set (control .spill) (bank .index) (bank .spill);
+      acts = set (control .acts) (bank .index) (bank .acts);
     }

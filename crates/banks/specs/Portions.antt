@@ -7,9 +7,9 @@ use lib.ListN.{take, drop}
 use lib.Seq.{paste}
 
 -- portion c, of k elements
-unfoldable pub portion : ℕ → ℕ → List ℕ → List ℕ
+unfoldable pub portion : {A : Type 0} → ℕ → ℕ → List A → List A
 portion k c xs = take k (drop (c * k) xs)
 
 -- the buffer with another portion c
-unfoldable pub withPortion : ℕ → ℕ → List ℕ → List ℕ → List ℕ
+unfoldable pub withPortion : {A : Type 0} → ℕ → ℕ → List A → List A → List A
 withPortion k c xs new = paste xs (c * k) new k

@@ -46,21 +46,17 @@ fn copy_up(store: &mut [u8], from: usize, gap: usize)
     }
 }
 
-// Copies the block that starts `left` bytes behind `from` to the same place behind `to`. From the sign of the distance
-// the compiler sees that the gap of `copy_up` is small, and the sum there doesn't wrap.
-fn copy_block(store: &mut [u8], from: usize, to: usize, left: usize)
+// Copies a block to a place apart from it.
+fn copy_block(store: &mut [u8], from: usize, to: usize)
     requires { ⌜
-        (from + left + 4096 ≤ length (now store)) × (to + left + 4096 ≤ length (now store))
-        × ((from + left + 4096 ≤ to) ⊎ (to + left + 4096 ≤ from)) ⌝ }
-    ensures { λ _.
-        ⌜ now (store .exit) ≡ paste (now (store .entry)) (to + left) (drop (from + left) (now (store .entry))) 4096 ⌝ }
+        (from + 4096 ≤ length (now store)) × (to + 4096 ≤ length (now store))
+        × ((from + 4096 ≤ to) ⊎ (to + 4096 ≤ from)) ⌝ }
+    ensures { λ _. ⌜ now (store .exit) ≡ paste (now (store .entry)) to (drop from (now (store .entry))) 4096 ⌝ }
 {
-    let source = from + left;
-    let ahead = to as i64 - source as i64;
-    if ahead < 0 {
-        copy_down(store, to + left, source - to - left - BLOCK);
+    if to < from {
+        copy_down(store, to, from - to - BLOCK);
     } else {
-        copy_up(store, source, ahead as usize + left - BLOCK);
+        copy_up(store, from, to - from - BLOCK);
     }
 }
 
@@ -73,7 +69,7 @@ pub fn copy_within(store: &mut [u8], from: usize, to: usize, n: usize)
     let mut left = n;
     while BLOCK <= left {
         left -= BLOCK;
-        copy_block(store, from, to, left);
+        copy_block(store, from + left, to + left);
     }
     copy_each(store, from, to, left);
 }

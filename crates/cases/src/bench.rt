@@ -1,24 +1,29 @@
 // Each call of the engine, made on a memory. No other file calls the engine.
+ghost use Prim.Native.Nat.{_<_};
+ghost use Rattle.banks.specs.Banks.{mostBanks};
 ghost use Rattle.cases.specs.Sized.{Sized};
 use crate::memory;
 use crate::memory::Memory;
+use crate::script;
 use crate::script::Numbers;
+use access::Answered;
 use figures::Outcome;
 use figures::Sum;
+use geometry::Control;
 use geometry::Settings;
 use sizing::RefreshTimes;
 use sizing::SizeTimes;
 
-// What a call answers, in numbers: number, place, slot moved to, row sent home (65535 for none), estimate, and the length
-// of inspect's part. And the memory after it.
+// What a call answers, in numbers: number, place, slot moved to, row sent home (65535 for none), estimate, and the
+// length of inspect's part. And the memory after it.
 pub struct Step {
     pub answer: [u64; 6],
     pub memory: Memory,
 }
 
-// The numbers of a set-up, a tick or an inspect.
-fn numbered(number: u32, length: usize) -> [u64; 6] {
-    [number as u64, 0, 65535, 65535, 0, length as u64]
+// The numbers of a set-up, a tick or an inspect, and of any call that is refused.
+pub fn numbered(number: u64, length: u64) -> [u64; 6] {
+    [number, 0, 65535, 65535, 0, length]
 }
 
 // The numbers of a read or a write.
@@ -33,75 +38,12 @@ fn placed(o: Outcome) -> [u64; 6] {
     ]
 }
 
-// A memory as it is. The contract tells the lengths of its arrays, which lending a part of one asks.
-fn sized(m: Memory) -> Memory
-    ensures { λ r. ⌜ Sized r ⌝ }
-{
-    m
-}
-
-fn set_up(given: Memory) -> Step {
-    let m = sized(given);
-    let store = m.store;
-    let mut forward = m.forward;
-    let mut reverse = m.reverse;
-    let mut rows = m.rows;
-    let mut counts = m.counts;
-    let n = m.lent[1] % 257;
-    let f = m.lent[2] % 257;
-    let r = m.lent[3] % 257;
-    let k = m.lent[4] % 257;
-    let c = m.lent[5] % 257;
-    let done = upkeep::set_up(
-        m.control,
-        m.settings,
-        &store[..n],
-        &mut forward[..f],
-        &mut reverse[..r],
-        &mut rows[..k],
-        &mut counts[..c],
-    );
+// The answer of a call on a memory, and the memory with the control record that it left.
+fn made(m: Memory, answer: [u64; 6], control: Control) -> Step {
     let mut after = m;
-    after.forward = forward;
-    after.reverse = reverse;
-    after.rows = rows;
-    after.counts = counts;
-    let control = done.control;
     after.control = control;
     Step {
-        answer: numbered(done.number, 0),
-        memory: after,
-    }
-}
-
-fn tick(given: Memory) -> Step {
-    let m = sized(given);
-    let store = m.store;
-    let forward = m.forward;
-    let reverse = m.reverse;
-    let mut rows = m.rows;
-    let mut counts = m.counts;
-    let n = m.lent[1] % 257;
-    let f = m.lent[2] % 257;
-    let r = m.lent[3] % 257;
-    let k = m.lent[4] % 257;
-    let c = m.lent[5] % 257;
-    let done = upkeep::tick(
-        m.control,
-        m.settings,
-        &store[..n],
-        &forward[..f],
-        &reverse[..r],
-        &mut rows[..k],
-        &mut counts[..c],
-    );
-    let mut after = m;
-    after.rows = rows;
-    after.counts = counts;
-    let control = done.control;
-    after.control = control;
-    Step {
-        answer: numbered(done.number, 0),
+        answer: answer,
         memory: after,
     }
 }
@@ -120,66 +62,114 @@ fn bytes_of(part: &[u8]) -> [u8; 256] {
     a
 }
 
-// Inspect, by both of its calls. What it shows is a part of the memory after it.
-fn inspect(given: Memory, row: u32) -> Step {
-    let m = sized(given);
-    let store = m.store;
-    let forward = m.forward;
-    let reverse = m.reverse;
-    let rows = m.rows;
-    let counts = m.counts;
-    let n = m.lent[1] % 257;
-    let f = m.lent[2] % 257;
-    let r = m.lent[3] % 257;
-    let k = m.lent[4] % 257;
-    let c = m.lent[5] % 257;
-    let number = look::inspect_number(
-        m.control,
-        m.settings,
-        row,
-        &store[..n],
-        &forward[..f],
-        &reverse[..r],
-        &rows[..k],
-        &counts[..c],
-    );
-    let part = look::inspect_part(
-        m.control,
-        m.settings,
-        row,
-        &store[..n],
-        &forward[..f],
-        &reverse[..r],
-        &rows[..k],
-        &counts[..c],
-    );
+// A read or a write.
+fn served(m: Memory, done: Answered) -> Step
+    requires { ⌜ done .bank .index < mostBanks ⌝ }
+{
+    let outcome = done.outcome;
+    let control = m.control;
+    made(m, placed(outcome), access::record_after(control, done))
+}
+
+// An inspect, by both of its calls. What it shows is a part of the memory after it.
+fn shown(m: Memory, number: u32, part: &[u8]) -> Step {
     let mut after = m;
     after.bytes = bytes_of(part);
-    after.lent[memory::BYTES] = part.len();
+    after.lengths[memory::BYTES] = part.len();
     Step {
-        answer: numbered(number, part.len()),
+        answer: numbered(number as u64, part.len() as u64),
         memory: after,
     }
 }
 
-fn read(given: Memory, row: u32) -> Step {
+// One of the five calls, by its verb, on what is lent of a memory. The memory of the step lacks what it writes there.
+fn on_lent(
+    m: Memory,
+    verb: usize,
+    row: u32,
+    column: usize,
+    bytes: &[u8],
+    buffer: &mut [u8],
+    store: &mut [u8],
+    forward: &mut [u16],
+    reverse: &mut [u16],
+    rows: &mut [u16],
+    counts: &mut [u32],
+) -> Step {
+    let control = m.control;
+    let s = m.settings;
+    if verb == script::SET_UP {
+        let done = epoch::set_up(control, s, store, forward, reverse, rows, counts);
+        return made(m, numbered(done.number as u64, 0), done.control);
+    }
+    if verb == script::TICK {
+        let done = epoch::tick(control, s, store, forward, reverse, rows, counts);
+        return made(m, numbered(done.number as u64, 0), done.control);
+    }
+    if verb == script::INSPECT {
+        let number = look::inspect_number(control, s, row, store, forward, reverse, rows, counts);
+        let part = look::inspect_part(control, s, row, store, forward, reverse, rows, counts);
+        return shown(m, number, part);
+    }
+    if verb == script::READ {
+        let done = access::read(
+            control,
+            s,
+            row,
+            buffer,
+            store,
+            forward,
+            reverse,
+            rows,
+            counts,
+        );
+        return served(m, done);
+    }
+    let done = access::write(
+        control,
+        s,
+        row,
+        column,
+        bytes,
+        store,
+        forward,
+        reverse,
+        rows,
+        counts,
+    );
+    served(m, done)
+}
+
+// A memory as it is. The contract tells the lengths of its arrays, which lending a part of one asks.
+fn sized(m: Memory) -> Memory
+    ensures { λ r. ⌜ Sized r ⌝ }
+{
+    m
+}
+
+// One of the five calls, by its verb, on a memory: what is lent of each part is handed on, and the parts are put back.
+pub fn call(given: Memory, verb: usize, row: u32, column: usize) -> Step {
     let m = sized(given);
+    let bytes = m.bytes;
     let mut buffer = m.buffer;
     let mut store = m.store;
     let mut forward = m.forward;
     let mut reverse = m.reverse;
     let mut rows = m.rows;
     let mut counts = m.counts;
-    let b = m.lent[6] % 257;
-    let n = m.lent[1] % 257;
-    let f = m.lent[2] % 257;
-    let r = m.lent[3] % 257;
-    let k = m.lent[4] % 257;
-    let c = m.lent[5] % 257;
-    let served = rank::read_core(
-        m.control,
-        m.settings,
+    let w = memory::length(m, memory::BYTES);
+    let b = memory::length(m, memory::BUFFER);
+    let n = memory::length(m, memory::STORE);
+    let f = memory::length(m, memory::FORWARD);
+    let r = memory::length(m, memory::REVERSE);
+    let k = memory::length(m, memory::ROWS);
+    let c = memory::length(m, memory::COUNTS);
+    let done = on_lent(
+        m,
+        verb,
         row,
+        column,
+        &bytes[..w],
         &mut buffer[..b],
         &mut store[..n],
         &mut forward[..f],
@@ -187,82 +177,28 @@ fn read(given: Memory, row: u32) -> Step {
         &mut rows[..k],
         &mut counts[..c],
     );
-    let mut after = m;
+    let answer = done.answer;
+    let mut after = done.memory;
     after.buffer = buffer;
     after.store = store;
     after.forward = forward;
     after.reverse = reverse;
     after.rows = rows;
     after.counts = counts;
-    let control = served.control;
-    after.control = control;
-    let outcome = served.outcome;
     Step {
-        answer: placed(outcome),
+        answer: answer,
         memory: after,
-    }
-}
-
-fn write(given: Memory, row: u32, column: usize) -> Step {
-    let m = sized(given);
-    let mut store = m.store;
-    let mut forward = m.forward;
-    let mut reverse = m.reverse;
-    let mut rows = m.rows;
-    let mut counts = m.counts;
-    let bytes = m.bytes;
-    let b = m.lent[9] % 257;
-    let n = m.lent[1] % 257;
-    let f = m.lent[2] % 257;
-    let r = m.lent[3] % 257;
-    let k = m.lent[4] % 257;
-    let c = m.lent[5] % 257;
-    let served = rank::write_core(
-        m.control,
-        m.settings,
-        row,
-        column,
-        &bytes[..b],
-        &mut store[..n],
-        &mut forward[..f],
-        &mut reverse[..r],
-        &mut rows[..k],
-        &mut counts[..c],
-    );
-    let mut after = m;
-    after.store = store;
-    after.forward = forward;
-    after.reverse = reverse;
-    after.rows = rows;
-    after.counts = counts;
-    let control = served.control;
-    after.control = control;
-    let outcome = served.outcome;
-    Step {
-        answer: placed(outcome),
-        memory: after,
-    }
-}
-
-// One of the five calls, by its verb.
-pub fn call(m: Memory, kind: usize, row: u32, column: usize) -> Step {
-    match kind {
-        10 => set_up(m),
-        11 => tick(m),
-        12 => inspect(m, row),
-        13 => read(m, row),
-        _ => write(m, row, column),
     }
 }
 
 // The test of 6 alone, for counts of bytes that no slice can have: of a read where there is no column.
 pub fn span_number(s: Settings, writes: bool, column: usize, count: usize) -> u32 {
-    let off = if writes {
-        ladder::write_off(s, column, count)
+    let asked = if writes {
+        ladder::write_asked(s, 0, column, count)
     } else {
-        ladder::read_off(s, count)
+        ladder::read_asked(s, 0, count)
     };
-    if off { 6 } else { 0 }
+    if asked.off { 6 } else { 0 }
 }
 
 // The sums of the numbers.

@@ -7,10 +7,6 @@ use crate::report::Case;
 use crate::script;
 use crate::script::Numbers;
 
-pub fn narrow(x: u64) -> u32 {
-    (x % 4294967296) as u32
-}
-
 // The first element of a part that is not the number for it, of so many; 256 where there is none.
 pub fn other_number(numbers: &Numbers, m: Memory, part: usize, from: usize, count: usize) -> usize {
     let mut i: usize = 0;
@@ -36,15 +32,15 @@ pub fn other_figure(a: [u64; 6], b: [u64; 6]) -> usize {
     i
 }
 
-// The first element in which a part of the memory is not as it was before the call; 256 where there is none. The places of
-// bank 0 belong to the part `control`.
+// The first element in which a part of the memory is not as it was before the call; 256 where there is none. The places
+// of bank 0 belong to the part `control`.
 fn changed_element(c: Case, part: usize) -> usize {
     let places = (part == memory::SPILL) | (part == memory::ACTS);
     let from: usize = if places { 1 } else { 0 };
     memory::difference(c.now, c.before, part, from)
 }
 
-// The first part of the memory that the call changed, of all or of those that no line has spoken of; 9 where there is none.
+// The first part of the memory that the call changed, of all or of those that no line has spoken of; 9 where none is.
 pub fn changed_part(c: Case, all: bool) -> usize {
     let mut part: usize = 0;
     while part < 9 {
@@ -101,6 +97,11 @@ pub fn accepted(numbers: &Numbers, c: Case, count: usize) -> Case {
     )
 }
 
+// Case: an element of a part is not as expected.
+fn wrong_element(c: Case, part: usize, i: usize, expected: u64) -> Case {
+    report::wrong_part(c, part, i, expected, memory::element(c.now, part, i))
+}
+
 // Case: the memory is as it was before the call, all of it or what no line has spoken of.
 pub fn kept(c: Case, all: bool) -> Case {
     let part = changed_part(c, all);
@@ -108,23 +109,25 @@ pub fn kept(c: Case, all: bool) -> Case {
         return report::right(c);
     }
     let i = changed_element(c, part);
-    report::wrong_part(
-        c,
-        part,
-        i,
-        memory::element(c.before, part, i),
-        memory::element(c.now, part, i),
-    )
+    wrong_element(c, part, i, memory::element(c.before, part, i))
 }
 
-// Case: the last call is refused. Beside the number the answer holds nothing, and the memory is as it was.
-pub fn refused(c: Case, number: u64) -> Case {
-    let expected = [number, 0, 65535, 65535, 0, 0];
+// Case: the last call answers this, and leaves this memory where it is accepted, else the memory that it was made on.
+pub fn answers(c: Case, expected: [u64; 6], left: Memory) -> Case {
     let found = c.answer;
     if other_figure(found, expected) < 6 {
         return check_answer(c, expected);
     }
-    kept(c, true)
+    let mut d = c;
+    if expected[0] == 0 {
+        d.before = left;
+    }
+    kept(d, true)
+}
+
+// Case: the last call is refused. Beside the number the answer holds nothing, and the memory is as it was.
+pub fn refused(c: Case, number: u64) -> Case {
+    answers(c, bench::numbered(number, 0), c.before)
 }
 
 // Case: inspect shows the numbers.
@@ -134,13 +137,7 @@ pub fn shown_is(numbers: &Numbers, c: Case, count: usize) -> Case {
     }
     let i = other_number(numbers, c.now, memory::BYTES, 0, count);
     if i < 256 {
-        return report::wrong_part(
-            c,
-            memory::BYTES,
-            i,
-            numbers[i],
-            memory::element(c.now, memory::BYTES, i),
-        );
+        return wrong_element(c, memory::BYTES, i, numbers[i]);
     }
     report::right(c)
 }
@@ -151,24 +148,18 @@ pub fn part_is(numbers: &Numbers, c: Case, part: usize, count: usize) -> Case {
     d.said[part % 10] = true;
     let i = other_number(numbers, c.now, part, 0, count);
     if i < 256 {
-        return report::wrong_part(d, part, i, numbers[i], memory::element(c.now, part, i));
+        return wrong_element(d, part, i, numbers[i]);
     }
     let j = memory::difference(c.now, c.before, part, count);
     if j < 256 {
-        return report::wrong_part(
-            d,
-            part,
-            j,
-            memory::element(c.before, part, j),
-            memory::element(c.now, part, j),
-        );
+        return wrong_element(d, part, j, memory::element(c.before, part, j));
     }
     report::right(d)
 }
 
 // The first number, from one on, that inspect does not show of a row; 512 where there is none.
 pub fn hidden_number(numbers: &Numbers, m: Memory, row: u64, from: usize, w: usize) -> usize {
-    let step = bench::call(m, script::INSPECT, narrow(row), 0);
+    let step = bench::call(m, script::INSPECT, memory::narrow32(row), 0);
     let i = other_number(numbers, step.memory, memory::BYTES, from, w);
     if (i < 256) | (step.answer[0] != 0) {
         return std::num::wrapping_add_usize(from, i % 256);

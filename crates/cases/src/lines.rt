@@ -16,20 +16,15 @@ use geometry::Settings;
 fn settings(numbers: &Numbers, c: Case, count: usize) -> Case {
     let b = if count == 7 { numbers[6] } else { 1 };
     let s = Settings {
-        n: expect::narrow(numbers[0]),
-        q: expect::narrow(numbers[1]),
-        w: expect::narrow(numbers[2]),
-        k: expect::narrow(numbers[3]),
-        a: expect::narrow(numbers[4]),
-        l: expect::narrow(numbers[5]),
-        b: expect::narrow(b),
+        n: memory::narrow32(numbers[0]),
+        q: memory::narrow32(numbers[1]),
+        w: memory::narrow32(numbers[2]),
+        k: memory::narrow32(numbers[3]),
+        a: memory::narrow32(numbers[4]),
+        l: memory::narrow32(numbers[5]),
+        b: memory::narrow32(b),
     };
-    let m = memory::new(s);
-    let mut d = c;
-    d.now = m;
-    d.ready = true;
-    d.called = 0;
-    d
+    with_memory(c, memory::new(s))
 }
 
 // The memory with numbers in the elements of a part.
@@ -59,20 +54,14 @@ fn with_memory(c: Case, m: Memory) -> Case {
     d
 }
 
-pub fn with_length(given: Memory, part: usize, n: usize) -> Memory {
-    let mut m = given;
-    m.lent[part % 10] = n;
-    m
-}
-
 // `lend`: other lengths of store, forward, reverse, rows and counts.
 fn lend(numbers: &Numbers, c: Case) -> Case {
     let mut m = c.now;
-    m.lent[1] = numbers[0] as usize;
-    m.lent[2] = numbers[1] as usize;
-    m.lent[3] = numbers[2] as usize;
-    m.lent[4] = numbers[3] as usize;
-    m.lent[5] = numbers[4] as usize;
+    m.lengths[memory::STORE] = numbers[0] as usize;
+    m.lengths[memory::FORWARD] = numbers[1] as usize;
+    m.lengths[memory::REVERSE] = numbers[2] as usize;
+    m.lengths[memory::ROWS] = numbers[3] as usize;
+    m.lengths[memory::COUNTS] = numbers[4] as usize;
     with_memory(c, m)
 }
 
@@ -99,11 +88,11 @@ fn answered(c: Case, before: Memory, step: Step, verb: usize) -> Case {
 }
 
 // One of the five calls is made, on a memory.
-fn make(c: Case, m: Memory, verb: usize, row: u64, column: u64) -> Case {
+pub fn make(c: Case, m: Memory, verb: usize, row: u64, column: u64) -> Case {
     answered(
         c,
         m,
-        bench::call(m, verb, expect::narrow(row), column as usize),
+        bench::call(m, verb, memory::narrow32(row), column as usize),
         verb,
     )
 }
@@ -117,7 +106,7 @@ fn read(numbers: &Numbers, c: Case, count: usize) -> Case {
     };
     make(
         c,
-        with_length(c.now, memory::BUFFER, memory::cut(n)),
+        memory::with_length(c.now, memory::BUFFER, memory::cut(n)),
         script::READ,
         numbers[0],
         0,
@@ -130,7 +119,7 @@ fn write(numbers: &Numbers, c: Case, count: usize) -> Case {
     let m = with_numbers(numbers, c.now, memory::BYTES, 2, n);
     make(
         c,
-        with_length(m, memory::BYTES, n),
+        memory::with_length(m, memory::BYTES, n),
         script::WRITE,
         numbers[0],
         numbers[1],
@@ -147,7 +136,7 @@ fn asked(numbers: &Numbers, c: Case, verb: usize, count: usize) -> [u64; 6] {
             numbers[0] as usize,
             last as usize,
         );
-        return [off as u64, 0, 65535, 65535, 0, 0];
+        return bench::numbered(off as u64, 0);
     }
     let sum = if verb == script::SIZE {
         bench::least_size(numbers)
@@ -181,37 +170,9 @@ fn call(numbers: &Numbers, c: Case, verb: usize, count: usize) -> Case {
     )
 }
 
-// Case: one of the five calls, made on a memory, answers this, and leaves this memory where it is accepted, else the memory
-// that it was made on.
-pub fn answers(
-    c: Case,
-    m: Memory,
-    verb: usize,
-    row: u64,
-    column: u64,
-    expected: [u64; 6],
-    left: Memory,
-) -> Case {
-    let d = make(c, m, verb, row, column);
-    let found = d.answer;
-    if expect::other_figure(found, expected) < 6 {
-        return expect::check_answer(d, expected);
-    }
-    let mut e = d;
-    if expected[0] == 0 {
-        e.before = left;
-    }
-    expect::kept(e, true)
-}
-
 // Case: one of the five calls is accepted, or refused with a number. It is made on the memory as it is, which stays so.
 fn attempt(c: Case, verb: usize, row: u64, number: u64) -> Case {
-    let m = with_length(
-        memory::with_element(c.now, memory::BYTES, 0, 99),
-        memory::BYTES,
-        1,
-    );
-    let d = make(c, m, verb, row, 0);
+    let d = make(c, memory::with_byte(c.now, 99), verb, row, 0);
     let e = if number == 0 {
         expect::accept(d)
     } else {

@@ -1,8 +1,7 @@
-// Runs a script of cases on the engine, and prints what differs, by the line of the script. The script that stands beside this
-// program, `stdin`, has the cases of documents 01 and 02, and says how a script is written.
+// Runs a script of cases on the engine, and prints what differs, by the line of the script. The script that stands
+// beside this program, `stdin`, has the cases of documents 01 and 02, and says how a script is written.
 ghost use mathlib.Core.Path.{_≡_};
 ghost use lib.ListN.{length};
-use geometry::Settings;
 use libc::STDIN_FILENO;
 use report::Case;
 use script::Numbers;
@@ -30,35 +29,6 @@ fn text_buffer() -> [u8; 262145]
 struct Reading {
     case: Case,
     scan: Scan,
-}
-
-// Before the first line.
-fn begin() -> Case {
-    let m = memory::new(Settings {
-        n: 0,
-        q: 0,
-        w: 0,
-        k: 0,
-        a: 0,
-        l: 0,
-        b: 0,
-    });
-    Case {
-        now: m,
-        before: m,
-        ready: false,
-        answer: [0u64; 6],
-        called: 0,
-        said: [false; 10],
-        line: 1,
-        name: 0,
-        name_end: 0,
-        cases: 0,
-        wrong: 0,
-        all_cases: 0,
-        all_wrong: 0,
-        stopped: false,
-    }
 }
 
 // The line ends before index i.
@@ -93,7 +63,7 @@ fn byte(text: &[u8], numbers: &mut Numbers, r: Reading, i: usize, b: u8) -> Read
 // Every line, to the end of the script or to one that is refused.
 fn run(text: &[u8], numbers: &mut Numbers) -> Case {
     let mut r = Reading {
-        case: begin(),
+        case: report::begin(),
         scan: Scan::START,
     };
     let mut i: usize = 0;

@@ -1,11 +1,11 @@
-// What a caller lends, as one value. The parts are numbered, and so are the elements of a part: each has 256, of which the
-// first are lent.
+// What a caller lends, as one value. The parts are numbered, and so are the elements of a part: each has 256, of which
+// the first are lent.
 ghost use Prim.Native.Nat.{_≤_};
 use geometry::Control;
 use geometry::Settings;
 
-// The parts. The control record has three: its fields, of the banks those of bank 0, and the places of all banks in `spill`
-// and in `acts`. The bytes that a write writes, or that an inspect shows, are one more.
+// The parts. The control record has three: its fields, of the banks those of bank 0, and the places of all banks in
+// `spill` and in `acts`. The bytes that a write writes, or that an inspect shows, are one more.
 pub const CONTROL: usize = 0;
 
 pub const STORE: usize = 1;
@@ -37,7 +37,7 @@ pub struct Memory {
     pub buffer: [u8; 256],
     pub bytes: [u8; 256],
     // by part, how many elements are lent
-    pub lent: [usize; 10],
+    pub lengths: [usize; 10],
 }
 
 // A field of the control record; of the banks, those of bank 0.
@@ -62,37 +62,28 @@ fn with_field(c: Control, i: usize, value: u32) -> Control {
     d
 }
 
-// The place of bank i in `spill`, and in `acts`, 0 past the last.
-fn spill_of(c: Control, i: usize) -> u64 {
+// The number of bank i, of one for each bank; 0 past the last.
+fn of_bank(numbers: [u32; 16], i: usize) -> u64 {
     if 16 <= i {
         return 0;
     }
-    wide32(c.spill[i])
+    wide32(numbers[i])
 }
 
-fn acts_of(c: Control, i: usize) -> u64 {
-    if 16 <= i {
-        return 0;
-    }
-    wide32(c.acts[i])
-}
-
-// The control record with a value in the place of bank i.
+// The control record with a value for bank i.
 fn with_spill(c: Control, i: usize, value: u32) -> Control {
     let mut d = c;
-    if 16 <= i {
-        return d;
+    if i < 16 {
+        d.spill[i] = value;
     }
-    d.spill[i] = value;
     d
 }
 
 fn with_acts(c: Control, i: usize, value: u32) -> Control {
     let mut d = c;
-    if 16 <= i {
-        return d;
+    if i < 16 {
+        d.acts[i] = value;
     }
-    d.acts[i] = value;
     d
 }
 
@@ -108,6 +99,18 @@ fn wide32(x: u32) -> u64 {
     x as u64
 }
 
+fn narrow8(x: u64) -> u8 {
+    (x % 256) as u8
+}
+
+fn narrow16(x: u64) -> u16 {
+    (x % 65536) as u16
+}
+
+pub fn narrow32(x: u64) -> u32 {
+    (x % 4294967296) as u32
+}
+
 // Element i of a part, 0 past its end.
 pub fn element(m: Memory, part: usize, i: usize) -> u64 {
     if 256 <= i {
@@ -121,8 +124,8 @@ pub fn element(m: Memory, part: usize, i: usize) -> u64 {
         4 => wide16(m.rows[i]),
         5 => wide32(m.counts[i]),
         6 => wide8(m.buffer[i]),
-        7 => spill_of(m.control, i),
-        8 => acts_of(m.control, i),
+        7 => of_bank(m.control.spill, i),
+        8 => of_bank(m.control.acts, i),
         _ => wide8(m.bytes[i]),
     }
 }
@@ -135,37 +138,51 @@ pub fn with_element(m: Memory, part: usize, i: usize, value: u64) -> Memory {
     }
     match part {
         0 => {
-            let c = with_field(m.control, i, (value % 4294967296) as u32);
+            let c = with_field(m.control, i, narrow32(value));
             n.control = c;
         }
-        1 => n.store[i] = (value % 256) as u8,
-        2 => n.forward[i] = (value % 65536) as u16,
-        3 => n.reverse[i] = (value % 65536) as u16,
-        4 => n.rows[i] = (value % 65536) as u16,
-        5 => n.counts[i] = (value % 4294967296) as u32,
-        6 => n.buffer[i] = (value % 256) as u8,
+        1 => n.store[i] = narrow8(value),
+        2 => n.forward[i] = narrow16(value),
+        3 => n.reverse[i] = narrow16(value),
+        4 => n.rows[i] = narrow16(value),
+        5 => n.counts[i] = narrow32(value),
+        6 => n.buffer[i] = narrow8(value),
         7 => {
-            let c = with_spill(m.control, i, (value % 4294967296) as u32);
+            let c = with_spill(m.control, i, narrow32(value));
             n.control = c;
         }
         8 => {
-            let c = with_acts(m.control, i, (value % 4294967296) as u32);
+            let c = with_acts(m.control, i, narrow32(value));
             n.control = c;
         }
-        _ => n.bytes[i] = (value % 256) as u8,
+        _ => n.bytes[i] = narrow8(value),
     }
     n
 }
 
-// How many elements of a part are lent.
-pub fn length(m: Memory, part: usize) -> usize {
-    m.lent[part % 10]
+// How many elements of a part are lent: modulo 257, since there are 256.
+pub fn length(m: Memory, part: usize) -> usize
+    ensures { λ r. ⌜ r ≤ 256 ⌝ }
+{
+    m.lengths[part % 10] % 257
 }
 
-// The first element, from one on, in which a part of two memories differs, among those lent and the four behind them; 256
-// where none does.
+// The memory with so many elements of a part lent.
+pub fn with_length(m: Memory, part: usize, count: usize) -> Memory {
+    let mut n = m;
+    n.lengths[part % 10] = count;
+    n
+}
+
+// The memory with one byte to write.
+pub fn with_byte(m: Memory, byte: u64) -> Memory {
+    with_length(with_element(m, BYTES, 0, byte), BYTES, 1)
+}
+
+// The first element, from one on, in which a part of two memories differs, among those lent and the four behind them;
+// 256 where none does.
 pub fn difference(a: Memory, b: Memory, part: usize, from: usize) -> usize {
-    let end = length(a, part) % 257 + 4;
+    let end = length(a, part) + 4;
     let mut i = from;
     while i < end {
         if element(a, part, i) != element(b, part, i) {
@@ -223,6 +240,6 @@ pub fn new(s: Settings) -> Memory {
         counts: [0u32; 256],
         buffer: [200u8; 256],
         bytes: [0u8; 256],
-        lent: [4, store, n, q, k, k, w, 16, 16, 0],
+        lengths: [4, store, n, q, k, k, w, 16, 16, 0],
     }
 }

@@ -1,10 +1,12 @@
-// 'The first that applies is answered, and only then.' Ten defects, one for each line of document 01's table; each set of
-// them, 2 ^ 10 in all, is put to the five calls, so each pair stands together where it can:
-// - a row ≥ N has no forward entry and no place, so 5 stands with neither 7 nor with 9; the sets that hold both have the
-//   defects of row 1 beside a call for row 4;
+// 'The first that applies is answered, and only then.' Ten defects, one for each line of document 01's table; each set
+// of them, 2 ^ 10 in all, is put to the five calls, so each pair stands together where it can:
+// - a row ≥ N has no forward entry and no place, so 5 stands with neither 7 nor with 9; the sets that hold both have
+//   the defects of row 1 beside a call for row 4;
 // - acts > L and acts = L exclude each other, so here the 4 that stands with 8 is a count above acts;
 // - the two 7s have one number, and their order shows only against 8 and 9.
 // N 4, Q 2, W 2, K 2, A 2, L 5; row 1 is due, and slot 0 is `head`. The store's byte i is i + 1.
+use crate::bench;
+use crate::expect;
 use crate::lines;
 use crate::memory;
 use crate::memory::Memory;
@@ -12,7 +14,7 @@ use crate::report::Case;
 use crate::script;
 use geometry::Settings;
 
-// The defects, by bits.
+// The defects, by bits: the lowest is the first.
 const RANGE: u64 = 1;
 
 const LIMIT: u64 = 2;
@@ -55,7 +57,7 @@ fn fitted(defects: u64) -> Memory {
         b: 1,
     });
     if has(defects, LENGTH) {
-        return lines::with_length(
+        return memory::with_length(
             m,
             memory::STORE,
             choose(has(defects, RANGE), 9, 11) as usize,
@@ -117,44 +119,20 @@ fn lent(defects: u64) -> Memory {
     )
 }
 
-// The number of the first defect from 6 on; 0 of none.
-fn later(defects: u64) -> u64 {
-    if has(defects, SPAN) {
-        return 6;
-    }
-    if has(defects, POINTER) {
-        return 7;
-    }
-    if has(defects, EPOCH) {
-        return 8;
-    }
-    if has(defects, SLOTS) {
-        return 9;
-    }
-    if has(defects, TARGET) {
-        return 7;
-    }
-    0
-}
-
-// The number of the first defect; 0 of none.
+// The number of the first defect, by the place of its bit; 0 of none.
 fn first(defects: u64) -> u64 {
-    if has(defects, RANGE) {
-        return 1;
+    match u64::trailing_zeros(defects) {
+        0 => 1,
+        1 => 2,
+        2 => 3,
+        3 => 4,
+        4 => 5,
+        5 => 6,
+        6 | 9 => 7,
+        7 => 8,
+        8 => 9,
+        _ => 0,
     }
-    if has(defects, LIMIT) {
-        return 2;
-    }
-    if has(defects, LENGTH) {
-        return 3;
-    }
-    if has(defects, COUNT) {
-        return 4;
-    }
-    if has(defects, ROW) {
-        return 5;
-    }
-    later(defects)
 }
 
 // 5: the row is N.
@@ -210,44 +188,23 @@ fn filled(m: Memory) -> Memory {
 // Case: a set-up, which judges 1 to 3. Accepted, it leaves everything but the store new.
 fn set_up(c: Case, m: Memory, defects: u64) -> Case {
     let number = first(defects & (RANGE | LIMIT | LENGTH));
-    lines::answers(
-        c,
-        m,
-        script::SET_UP,
-        0,
-        0,
-        [number, 0, 65535, 65535, 0, 0],
-        memory::new(m.settings),
-    )
+    let d = lines::make(c, m, script::SET_UP, 0, 0);
+    expect::answers(d, bench::numbered(number, 0), memory::new(m.settings))
 }
 
 // Case: a tick, 'not set-up, sizing' being the calls of 4.
 fn tick(c: Case, m: Memory, defects: u64) -> Case {
     let number = first(defects & (RANGE | LIMIT | LENGTH | COUNT));
-    lines::answers(
-        c,
-        m,
-        script::TICK,
-        0,
-        0,
-        [number, 0, 65535, 65535, 0, 0],
-        ticked(m),
-    )
+    let d = lines::make(c, m, script::TICK, 0, 0);
+    expect::answers(d, bench::numbered(number, 0), ticked(m))
 }
 
 // Case: an inspect, which judges 1 to 5 and the row's 7. Its part has W bytes.
 fn inspect(c: Case, m: Memory, defects: u64) -> Case {
     let number = first(defects & (RANGE | LIMIT | LENGTH | COUNT | ROW | POINTER));
     let length = choose(number == 0, 2, 0);
-    lines::answers(
-        c,
-        m,
-        script::INSPECT,
-        row(defects),
-        0,
-        [number, 0, 65535, 65535, 0, length],
-        m,
-    )
+    let d = lines::make(c, m, script::INSPECT, row(defects), 0);
+    expect::answers(d, bench::numbered(number, length), m)
 }
 
 // The answer of an access with that number: row 1 is at its home, with estimate A = 2, and moves to slot 0.
@@ -255,42 +212,23 @@ fn access_answer(number: u64) -> [u64; 6] {
     if number == 0 {
         return [0, 1, 0, 65535, 2, 0];
     }
-    [number, 0, 65535, 65535, 0, 0]
+    bench::numbered(number, 0)
 }
 
 // Case: a read. 6: a buffer of 3 bytes.
 fn read(c: Case, m: Memory, defects: u64) -> Case {
-    let number = first(defects);
-    let n = lines::with_length(m, memory::BUFFER, choose(has(defects, SPAN), 3, 2) as usize);
-    lines::answers(
-        c,
-        n,
-        script::READ,
-        row(defects),
-        0,
-        access_answer(number),
-        filled(moved(n, 3)),
-    )
+    let length = choose(has(defects, SPAN), 3, 2) as usize;
+    let n = memory::with_length(m, memory::BUFFER, length);
+    let d = lines::make(c, n, script::READ, row(defects), 0);
+    expect::answers(d, access_answer(first(defects)), filled(moved(n, 3)))
 }
 
 // Case: a write of one byte, 99. 6: at column 2.
 fn write(c: Case, m: Memory, defects: u64) -> Case {
-    let number = first(defects);
-    let n = lines::with_length(
-        memory::with_element(m, memory::BYTES, 0, 99),
-        memory::BYTES,
-        1,
-    );
     let column = choose(has(defects, SPAN), 2, 0);
-    lines::answers(
-        c,
-        n,
-        script::WRITE,
-        row(defects),
-        column,
-        access_answer(number),
-        moved(n, 99),
-    )
+    let n = memory::with_byte(m, 99);
+    let d = lines::make(c, n, script::WRITE, row(defects), column);
+    expect::answers(d, access_answer(first(defects)), moved(n, 99))
 }
 
 // Five cases: one set of defects.

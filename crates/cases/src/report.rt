@@ -1,6 +1,8 @@
-// The count of cases, and what is printed: the line of each group, each line of the script that differs, the line that is
-// refused.
+// The count of cases, and what is printed: the line of each group, each line of the script that differs, the line that
+// is refused.
+use crate::memory;
 use crate::memory::Memory;
+use geometry::Settings;
 use libc::STDOUT_FILENO;
 
 // What the script has come to.
@@ -21,12 +23,41 @@ pub struct Case {
     pub name: usize,
     pub name_end: usize,
     // cases of the group so far, the wrong ones among them, and the same of the groups before
-    pub cases: u64,
-    pub wrong: u64,
-    pub all_cases: u64,
-    pub all_wrong: u64,
+    cases: u64,
+    wrong: u64,
+    all_cases: u64,
+    all_wrong: u64,
     // a line was refused
     pub stopped: bool,
+}
+
+// Before the first line. There is no memory yet: one for settings of 0 stands in its place.
+pub fn begin() -> Case {
+    let m = memory::new(Settings {
+        n: 0,
+        q: 0,
+        w: 0,
+        k: 0,
+        a: 0,
+        l: 0,
+        b: 0,
+    });
+    Case {
+        now: m,
+        before: m,
+        ready: false,
+        answer: [0u64; 6],
+        called: 0,
+        said: [false; 10],
+        line: 1,
+        name: 0,
+        name_end: 0,
+        cases: 0,
+        wrong: 0,
+        all_cases: 0,
+        all_wrong: 0,
+        stopped: false,
+    }
 }
 
 fn put(text: &[u8]) {

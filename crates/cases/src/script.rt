@@ -1,5 +1,5 @@
-// One line of the script, read byte by byte: a verb, a second word or none, and numbers. A number is decimal, or `-` for
-// 65535, and with `*` and how often it stands there: 0*130. What is none of the words below is refused.
+// One line of the script, read byte by byte: a verb, a second word or none, and numbers. A number is decimal, or `-`
+// for 65535, and with `*` and how often it stands there: 0*130. What is none of the words below is refused.
 
 pub type Numbers = [u64; 512];
 
@@ -45,35 +45,50 @@ pub const KEPT: usize = 29;
 
 pub const NONE: usize = 30;
 
+// Eight blanks, and seven before a hyphen, as bytes of a number.
+const BLANKS: u64 = 2314885530818453536;
+
+const HYPHEN: u64 = 2314885530818453549;
+
+// The item that is read: its value as a number, its last eight bytes, and whether each of its bytes is a digit.
+struct Item {
+    value: u64,
+    packed: u64,
+    digits: bool,
+}
+
+impl Item {
+    const NONE: Item = Item {
+        value: 0,
+        packed: BLANKS,
+        digits: true,
+    };
+}
+
 // How far a line is read.
 pub struct Scan {
     pub verb: usize,
     pub word: usize,
     // how many numbers there are so far
     pub count: usize,
-    // the item that is read: its value as a number, its last eight bytes, and whether each of its bytes is a digit
-    pub value: u64,
-    pub packed: u64,
-    pub digits: bool,
-    // it is how often another number stands there, and that number
-    pub times: bool,
-    pub repeated: u64,
+    item: Item,
+    // the item is how often another number stands there, and that number
+    times: bool,
+    repeated: u64,
     // where the verb ends in the script
     pub end: usize,
     // the rest of the line is not read
-    pub comment: bool,
+    comment: bool,
     // the line is understood so far
     pub good: bool,
 }
 
 impl Scan {
     pub const START: Scan = Scan {
-        verb: 30,
-        word: 30,
+        verb: NONE,
+        word: NONE,
         count: 0,
-        value: 0,
-        packed: 2314885530818453536,
-        digits: true,
+        item: Item::NONE,
         times: false,
         repeated: 0,
         end: 0,
@@ -82,16 +97,13 @@ impl Scan {
     };
 }
 
-// Eight blanks, and seven before a hyphen, as bytes of a number.
-const BLANKS: u64 = 2314885530818453536;
-
-const HYPHEN: u64 = 2314885530818453549;
-
 // A digit of a number is read.
 fn digit(s: Scan, d: u64) -> Scan {
+    let before = s.item.value;
+    let value = std::num::wrapping_add_u64((before % 1844674407370955162) * 10, d);
     let mut t = s;
-    t.value = std::num::wrapping_add_u64((s.value % 1844674407370955162) * 10, d);
-    t.good = s.good & (s.value <= 1844674407370955161) & (s.value <= t.value);
+    t.item.value = value;
+    t.good = s.good & (before <= 1844674407370955161) & (before <= value);
     t
 }
 
@@ -102,26 +114,21 @@ fn pack(bytes: u64, b: u8) -> u64 {
 
 // A byte of an item is read. A word has at most eight.
 fn grow(s: Scan, b: u8) -> Scan {
+    let before = s.item.packed;
+    let packed = pack(before, b);
     let mut t = s;
-    t.packed = pack(s.packed, b);
-    if (48 <= b) & (b <= 57) & s.digits {
+    t.item.packed = packed;
+    if (48 <= b) & (b <= 57) & s.item.digits {
         return digit(t, (b % 48) as u64);
     }
-    t.good = s.good & (s.packed / 72057594037927936 == 32);
-    t.digits = false;
+    t.good = s.good & (before / 72057594037927936 == 32);
+    t.item.digits = false;
     t
 }
 
-// What was read is to stand there as often as what follows says.
-fn star(s: Scan) -> Scan {
-    let mut t = s;
-    t.good = s.good & !s.times & (s.digits | (s.packed == HYPHEN)) & (s.packed != BLANKS);
-    t.repeated = value_of(s);
-    t.times = true;
-    t.value = 0;
-    t.packed = BLANKS;
-    t.digits = true;
-    t
+// The item is a number, as far as its bytes go.
+fn is_number(item: Item) -> bool {
+    item.digits | (item.packed == HYPHEN)
 }
 
 // The number that was read.
@@ -129,10 +136,26 @@ fn value_of(s: Scan) -> u64 {
     if s.times {
         return s.repeated;
     }
-    if s.packed == HYPHEN {
+    if s.item.packed == HYPHEN {
         return 65535;
     }
-    s.value
+    s.item.value
+}
+
+// How often it stands there.
+fn times_of(s: Scan) -> u64 {
+    if s.times { s.item.value } else { 1 }
+}
+
+// What was read is to stand there as often as what follows says.
+fn star(s: Scan) -> Scan {
+    let none = Item::NONE;
+    let mut t = s;
+    t.good = s.good & !s.times & is_number(s.item) & (s.item.packed != BLANKS);
+    t.repeated = value_of(s);
+    t.times = true;
+    t.item = none;
+    t
 }
 
 // The place of a word among names of eight bytes; their number where it is none of them.
@@ -155,13 +178,12 @@ fn word(s: Scan, i: usize) -> Scan {
         b" control   store forward reverse    rows  counts  buffer   spill    acts    part\
 \x20 set-up    tick inspect    read   write    span    size    most\
 settings    lend    undoaccepted refused    rest    from   order   group visible      is    kept",
-        s.packed,
+        s.item.packed,
     );
+    let none = Item::NONE;
     let mut t = s;
     t.good = s.good & (place < NONE) & (s.count == 0) & !s.times;
-    t.packed = BLANKS;
-    t.digits = true;
-    t.value = 0;
+    t.item = none;
     if s.verb == NONE {
         t.verb = place;
         t.end = i;
@@ -215,27 +237,17 @@ fn put(numbers: &mut Numbers, from: usize, to: usize, value: u64) {
     }
 }
 
-// How often the number that was read stands there.
-fn times_of(s: Scan) -> u64 {
-    if s.times { s.value } else { 1 }
-}
-
 // A number ends.
 fn number(numbers: &mut Numbers, s: Scan) -> Scan {
     let value = value_of(s);
     let n = times_of(s);
     let to = std::num::wrapping_add_usize(s.count, n as usize);
-    let good = (s.verb != NONE)
-        & (s.digits | (s.packed == HYPHEN))
-        & (1 <= n)
-        & (n <= 512)
-        & (to <= 512);
+    let good = (s.verb != NONE) & is_number(s.item) & (1 <= n) & (n <= 512) & (to <= 512);
+    let none = Item::NONE;
     let mut t = s;
     t.good = s.good & good & (value <= largest(s.verb, s.count));
     t.count = to;
-    t.value = 0;
-    t.packed = BLANKS;
-    t.digits = true;
+    t.item = none;
     t.times = false;
     if t.good {
         put(numbers, s.count, to, value);
@@ -245,10 +257,10 @@ fn number(numbers: &mut Numbers, s: Scan) -> Scan {
 
 // The item that is read ends, if there is one, before index i of the script.
 pub fn end_item(numbers: &mut Numbers, s: Scan, i: usize) -> Scan {
-    if (s.packed == BLANKS) & !s.times {
+    if (s.item.packed == BLANKS) & !s.times {
         return s;
     }
-    if s.times | s.digits | (s.packed == HYPHEN) {
+    if s.times | is_number(s.item) {
         return number(numbers, s);
     }
     word(s, i)

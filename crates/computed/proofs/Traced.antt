@@ -5,13 +5,15 @@ use Rattle.geometry.specs.declared.Settings.{Settings}
 use Rattle.conditions.specs.Conditions.{rangesHold, limitHolds, storeHolds, lengthsHold}
 use Rattle.scan.specs.Scan.{lowest, some}
 use Rattle.banks.specs.Portions.{portion, withPortion}
-use Rattle.banks.specs.Banks.{bankOf, someBank}
+use Rattle.geometry.specs.Ranges.{someBelow}
+use Rattle.banks.specs.Banks.{bankOf}
 use Rattle.tracking.specs.Track.{track}
 use Rattle.tracking.specs.Worn.{worn}
 use Rattle.row_layout.specs.Bytes.{copied}
-use Rattle.engine.specs.Steps.{skippedOf, destinationFrom, riseTo, move}
-use Rattle.engine.specs.Ladder.{stops, _▹_, settingsNumber, fitNumber, pointsBack, rowNumber, quarantineNumber, lateNumber}
-use Rattle.engine.specs.Ladder.{ringUnsound, trackerUnsound, trackersUnsound, controlUnsound, tickNumber, accessNumber}
+use Rattle.engine.specs.Round.{skippedOf, destinationFrom, riseTo}
+use Rattle.engine.specs.Steps.{move}
+use Rattle.engine.specs.Ladder.{stops, _▹_, settingsNumber, fitNumber, pointsBack, rowUnsound, destinationUnsound, rowNumber}
+use Rattle.engine.specs.Ladder.{ringUnsound, trackerUnsound, trackersUnsound, controlUnsound, controlNumber, accessNumber}
 use Rattle.engine.specs.Calls as calls
 use Rattle.history.specs.Run.{Event, step}
 use Rattle.trace_steps.specs.Steps.{stepsFrom}
@@ -20,7 +22,8 @@ use Rattle.replay.specs.Memory.{lent}
 -- the steps after set-up, with their answers; `unfolding traced` opens all that is named here
 unfoldable pub traced : Settings → List ℕ → List Event
 unfolding calls.setUp calls.noted calls.zeroBelow calls.tick calls.read calls.accessed step stepsFrom
-    lowest some portion withPortion bankOf someBank track worn copied skippedOf destinationFrom riseTo move
-    stops _▹_ settingsNumber fitNumber rowNumber quarantineNumber lateNumber tickNumber accessNumber
+    lowest some portion withPortion bankOf someBelow track worn copied skippedOf destinationFrom riseTo move
+    stops _▹_ settingsNumber fitNumber controlNumber rowNumber accessNumber
     rangesHold limitHolds storeHolds lengthsHold ringUnsound trackerUnsound trackersUnsound controlUnsound pointsBack
+    rowUnsound destinationUnsound
 traced S steps = stepsFrom S ((calls.setUp S (lent S)) .state) steps

@@ -16,7 +16,7 @@ use Rattle.size_table.specs.Table.{sizes, gives, agrees}
 use Rattle.banks.specs.Banks.{mostBanks}
 use Rattle.engine.specs.State.{State, stateOf}
 use Rattle.engine.specs.Calls.{setUp}
-use Rattle.history.specs.Run.{read, access, Step, step}
+use Rattle.history.specs.Run.{read, access, rank, Step, step}
 use Rattle.page.specs.Ascii.{ascii}
 use Rattle.trace_steps.specs.Steps.{stepsFrom}
 use Rattle.replay.specs.Memory.{lent}
@@ -79,7 +79,7 @@ holds (trace text printed) = same (replayed (ascii text)) (lines printed)
 holds (estimates S steps told) =
     same (map (λ e. e .answer .estimate) (stepsFrom S ((setUp S (lent S)) .state) steps)) told
 holds (reads m r told) =
-    same (readFigures (step (m .settings) (memoryOf m) (access (read r (replicate (m .settings .w) 0))))) told
+    same (readFigures (step (m .settings) (memoryOf m) (rank (access (read r (replicate (m .settings .w) 0)))))) told
 holds (settings S number) = eqb ((setUp S (lent S)) .number) number
 
 -- settings in a trace's order, of one bank

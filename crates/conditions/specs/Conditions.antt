@@ -1,4 +1,4 @@
--- Document 01, 'Settings and lent memory' and the first three rows of 'Where each call can stop'.
+-- Document 01, 'Settings and lengths memory' and the first three rows of 'Where each call can stop'.
 -- Assumes nothing.
 use Prim.Native.Nat.{ℕ, _+_, _*_}
 use mathlib.Core.Bool.{Bool, _&&_}
@@ -35,9 +35,9 @@ storeHolds S bytes = eqb bytes ((S .n + S .q) * S .w)
 -- tracker rows (K 16-bit numbers) and tracker counts (K 32-bit numbers). Each has exactly that length.'; now 'Tracker
 -- buffers hold B × K entries' (document 02, Ask 5). Its failure is number 3
 unfoldable pub lengthsHold : Settings → Lengths → Bool
-lengthsHold S lent =
-    storeHolds S (lent .store)
-    && eqb (lent .forward) (S .n)
-    && eqb (lent .reverse) (S .q)
-    && eqb (lent .rows) (S .b * S .k)
-    && eqb (lent .counts) (S .b * S .k)
+lengthsHold S lengths =
+    storeHolds S (lengths .store)
+    && eqb (lengths .forward) (S .n)
+    && eqb (lengths .reverse) (S .q)
+    && eqb (lengths .rows) (S .b * S .k)
+    && eqb (lengths .counts) (S .b * S .k)

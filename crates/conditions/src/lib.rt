@@ -37,13 +37,13 @@ pub fn store_holds(s: Settings, store: usize) -> bool
 }
 
 // Condition 3: each table, tracker part and store has exactly its length.
-pub fn lengths_hold(s: Settings, lent: Lengths) -> bool
-    ensures { λ r. ⌜ r ≡ lengthsHold s lent ⌝ }
+pub fn lengths_hold(s: Settings, lengths: Lengths) -> bool
+    ensures { λ r. ⌜ r ≡ lengthsHold s lengths ⌝ }
 {
     let entries = (s.b as usize) * (s.k as usize);
-    store_holds(s, lent.store)
-        & (lent.forward == (s.n as usize))
-        & (lent.reverse == (s.q as usize))
-        & (lent.rows == entries)
-        & (lent.counts == entries)
+    store_holds(s, lengths.store)
+        & (lengths.forward == (s.n as usize))
+        & (lengths.reverse == (s.q as usize))
+        & (lengths.rows == entries)
+        & (lengths.counts == entries)
 }

@@ -22,7 +22,8 @@ use Rattle.engine.specs.declared.Move.{Move}
 use Rattle.engine.specs.declared.Move.the-variants.{Stayed, ToSlot, OverSlot}
 use Rattle.engine.specs.Answer.{slotMovedTo, rowSentHome}
 use Rattle.engine.specs.State.{State, Tracker, lengthsOf, trackerAt, forwardOf, reverseOf}
-use Rattle.engine.specs.Steps.{place, moves, skips, skipped, destinationFrom, destination, riseTo, rise, moveInto, move, left, settled}
+use Rattle.engine.specs.Steps.{place, moves, skips, skipped, destination, rise, moveInto, move, left, settled}
+use Rattle.engine.specs.Round.{destinationFrom, riseTo}
 use Rattle.engine.proofs.GoneBy.{Slide, next-in}
 use Rattle.engine.proofs.Ahead.{distance, ahead, goes-past}
 use Rattle.engine.proofs.Trackers.{CountingAt, TracksAt, counted-rows-long, counted-counts-long}
@@ -127,7 +128,7 @@ pub record Moved (S : Settings) (σ : State) (r : ℕ) (store : List ℕ) (d : �
   -- the slots ahead that the head would skip: the skipped ones are gone by now
   pub ahead : ahead (skips S σ r) (S .q) (σ .control .head) (σ .control .passed)
       ≡ skipped S σ r + ahead (skips S σ r) (S .q) (σ′ .control .head) (σ′ .control .passed)
-  pub links : Relinked S σ r d (σ′ .forward) (σ′ .reverse)
+  pub links : Relinked S σ r d (σ′ .tables .forward) (σ′ .tables .reverse)
   pub bytes : Carried S σ r d store (σ′ .store)
   pub lengths : Exact S (lengthsOf σ′)
 
@@ -162,8 +163,8 @@ module _ (S : Settings) (σ : State) (sound : Sound S σ) (r : ℕ) (row-in : r 
     target-in : S .n + d < S .n + S .q
     target-in = omega (arith, sl .inside)
 
-    reverse-long : length (set (left (σ .reverse) (forwardOf σ r)) d r) ≡ S .q
-    reverse-long = length-set (left (σ .reverse) (forwardOf σ r)) d r ∙ left-long S σ sound r row-in d (sl .inside) free
+    reverse-long : length (set (left (σ .tables .reverse) (forwardOf σ r)) d r) ≡ S .q
+    reverse-long = length-set (left (σ .tables .reverse) (forwardOf σ r)) d r ∙ left-long S σ sound r row-in d (sl .inside) free
 
     -- to an empty slot
     moved-to : reverseOf σ d ≡ empty → Moved S σ r store d (settled S σ r store (ToSlot (slot d)))
@@ -181,7 +182,7 @@ module _ (S : Settings) (σ : State) (sound : Sound S σ) (r : ℕ) (row-in : r 
           };
           lengths = record {
             store = length-copied (S .w) (S .n + S .q) store (place S σ r) (S .n + d) long p-in target-in ∙ long;
-            forward = length-set (σ .forward) r d ∙ sound .lengths .forward;
+            forward = length-set (σ .tables .forward) r d ∙ sound .lengths .forward;
             reverse = reverse-long;
             rows = counted-rows-long S σ sound r;
             counts = counted-counts-long S σ sound r;
@@ -223,7 +224,7 @@ module _ (S : Settings) (σ : State) (sound : Sound S σ) (r : ℕ) (row-in : r 
             };
             lengths = record {
               store = length-copied (S .w) (S .n + S .q) (copied (S .w) store (S .n + d) v) (place S σ r) (S .n + d) sent-long p-in target-in ∙ sent-long;
-              forward = length-set (set (σ .forward) v empty) r d ∙ length-set (σ .forward) v empty ∙ sound .lengths .forward;
+              forward = length-set (set (σ .tables .forward) v empty) r d ∙ length-set (σ .tables .forward) v empty ∙ sound .lengths .forward;
               reverse = reverse-long;
               rows = counted-rows-long S σ sound r;
               counts = counted-counts-long S σ sound r;

@@ -2,7 +2,7 @@
 use Prim.Native.Nat.{ℕ, _+_, _*_, _<_, _≤_}
 use native.Mathlib.Omega.{arith}
 use mathlib.Core.Path.{_≡_, sym, _∙_}
-use mathlib.Core.Bool.{true}
+use mathlib.Core.Bool.{false}
 use lib.ListN.{length}
 use borrow.Author.Tests.{eq-eqb}
 use Rattle.geometry.specs.declared.Settings.{Settings}
@@ -12,13 +12,13 @@ use Rattle.conditions.proofs.Facts.{Ranges, Exact, ranges-facts, lengths-facts}
 use Rattle.row_layout.proofs.Laws.{row-before, length-rowBytes}
 use Rattle.engine.specs.State.{State, lengthsOf}
 use Rattle.engine.specs.Steps.{place}
-use Rattle.engine.specs.Ladder.{tickNumber, inspectNumber}
+use Rattle.engine.specs.Ladder.{rowUnsound, tickNumber, inspectNumber}
 use Rattle.engine.specs.Calls.{inspectPart}
-use Rattle.engine.proofs.Facts.{Fit, tick-facts, pointersHold, inspect-facts, place-below}
+use Rattle.engine.proofs.Facts.{Fit, tick-facts, inspect-facts, place-below}
 
 -- x: the number as the code has it
 module _ (S : Settings) (σ : State) (r x : ℕ) (same : x ≡ inspectNumber S σ r) (z : x ≡ 0) where
-  facts : (tickNumber S σ ≡ 0) × (r < S .n) × (pointersHold S σ r ≡ true)
+  facts : (tickNumber S σ ≡ 0) × (r < S .n) × (rowUnsound S (σ .tables) r ≡ false)
   facts = inspect-facts S σ r (sym same ∙ z)
 
   fit : Fit S σ

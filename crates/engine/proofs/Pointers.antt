@@ -15,7 +15,7 @@ use Rattle.geometry.proofs.Cases.{split, eq?}
 use Rattle.conditions.proofs.Facts.{Ranges, Exact}
 use Rattle.engine.specs.State.{State, lengthsOf, forwardOf, reverseOf}
 use Rattle.engine.specs.Steps.{place, left}
-use Rattle.engine.specs.Tables.{Inverse}
+use Rattle.engine.specs.Inverse.{Inverse}
 
 -- settings in their ranges, tables of their lengths, numbers for every bank, and inverse tables
 pub record Sound (S : Settings) (σ : State) : Type 0 where
@@ -67,25 +67,25 @@ module _ (S : Settings) (σ : State) (sound : Sound S σ) (r : ℕ) (row-in : r 
       ]
 
   module _ (d : ℕ) (slot-in : d < S .q) (free : d ≢ forwardOf σ r) where
-    pub left-long : length (left (σ .reverse) (forwardOf σ r)) ≡ S .q
+    pub left-long : length (left (σ .tables .reverse) (forwardOf σ r)) ≡ S .q
     left-long =
         elim (split (eqb (forwardOf σ r) empty)) [ inl k ↦ rw k (sound .lengths .reverse) | inr k ↦ rw k (simp length-set (sound .lengths .reverse)) ]
 
-    reverse-filled : getD (set (left (σ .reverse) (forwardOf σ r)) d r) d empty ≡ r
-    reverse-filled = getD-set-same (left (σ .reverse) (forwardOf σ r)) d r empty (omega (arith, left-long))
+    reverse-filled : getD (set (left (σ .tables .reverse) (forwardOf σ r)) d r) d empty ≡ r
+    reverse-filled = getD-set-same (left (σ .tables .reverse) (forwardOf σ r)) d r empty (omega (arith, left-long))
 
-    reverse-freed : forwardOf σ r < S .q → getD (set (left (σ .reverse) (forwardOf σ r)) d r) (forwardOf σ r) empty ≡ empty
+    reverse-freed : forwardOf σ r < S .q → getD (set (left (σ .tables .reverse) (forwardOf σ r)) d r) (forwardOf σ r) empty ≡ empty
     reverse-freed b =
         let t : eqb (forwardOf σ r) empty ≡ false = ne-eqb (forwardOf σ r) empty (real (forwardOf σ r) (omega arith)) in
-        getD-set-other (left (σ .reverse) (forwardOf σ r)) d (forwardOf σ r) r empty (λ e. free (sym e))
-        ∙ rw t (getD-set-same (σ .reverse) (forwardOf σ r) empty empty (omega (arith, sound .lengths .reverse)))
+        getD-set-other (left (σ .tables .reverse) (forwardOf σ r)) d (forwardOf σ r) r empty (λ e. free (sym e))
+        ∙ rw t (getD-set-same (σ .tables .reverse) (forwardOf σ r) empty empty (omega (arith, sound .lengths .reverse)))
 
-    reverse-others : (s : ℕ) → s ≢ d → s ≢ forwardOf σ r → getD (set (left (σ .reverse) (forwardOf σ r)) d r) s empty ≡ reverseOf σ s
+    reverse-others : (s : ℕ) → s ≢ d → s ≢ forwardOf σ r → getD (set (left (σ .tables .reverse) (forwardOf σ r)) d r) s empty ≡ reverseOf σ s
     reverse-others s nd ne =
-        getD-set-other (left (σ .reverse) (forwardOf σ r)) d s r empty nd
+        getD-set-other (left (σ .tables .reverse) (forwardOf σ r)) d s r empty nd
         ∙ elim (split (eqb (forwardOf σ r) empty)) [
           | inl k ↦ rw k refl
-          | inr k ↦ rw k (getD-set-other (σ .reverse) (forwardOf σ r) s empty empty ne)
+          | inr k ↦ rw k (getD-set-other (σ .tables .reverse) (forwardOf σ r) s empty empty ne)
         ]
 
     -- a row in slot d is the one that its reverse entry names
@@ -97,12 +97,12 @@ module _ (S : Settings) (σ : State) (sound : Sound S σ) (r : ℕ) (row-in : r 
         ]
 
     -- to an empty slot
-    pub relinked-to : reverseOf σ d ≡ empty → Relinked S σ r d (set (σ .forward) r d) (set (left (σ .reverse) (forwardOf σ r)) d r)
+    pub relinked-to : reverseOf σ d ≡ empty → Relinked S σ r d (set (σ .tables .forward) r d) (set (left (σ .tables .reverse) (forwardOf σ r)) d r)
     relinked-to vacant =
         record {
-          mover = getD-set-same (σ .forward) r d empty (omega (arith, sound .lengths .forward));
+          mover = getD-set-same (σ .tables .forward) r d empty (omega (arith, sound .lengths .forward));
           evicted = λ x b n e. absurd (real x (omega arith) (sym (holder x b e) ∙ vacant));
-          rest = λ x b n e. getD-set-other (σ .forward) r x d empty n;
+          rest = λ x b n e. getD-set-other (σ .tables .forward) r x d empty n;
           filled = reverse-filled;
           freed = reverse-freed;
           others = reverse-others;
@@ -110,22 +110,22 @@ module _ (S : Settings) (σ : State) (sound : Sound S σ) (r : ℕ) (row-in : r 
 
     -- to a slot whose row v is sent home
     pub relinked-over : (v : ℕ) → reverseOf σ d ≡ v → v < S .n → forwardOf σ v ≡ d
-        → Relinked S σ r d (set (set (σ .forward) v empty) r d) (set (left (σ .reverse) (forwardOf σ r)) d r)
+        → Relinked S σ r d (set (set (σ .tables .forward) v empty) r d) (set (left (σ .tables .reverse) (forwardOf σ r)) d r)
     relinked-over v held v-in back =
         record {
-          mover = getD-set-same (set (σ .forward) v empty) r d empty (omega (arith, length-set (σ .forward) v empty, sound .lengths .forward));
+          mover = getD-set-same (set (σ .tables .forward) v empty) r d empty (omega (arith, length-set (σ .tables .forward) v empty, sound .lengths .forward));
           evicted = λ x b n e.
               let xv : x ≡ v = sym (holder x b e) ∙ held in
-              getD-set-other (set (σ .forward) v empty) r x d empty n ∙ rw xv (getD-set-same (σ .forward) v empty empty (omega (arith, sound .lengths .forward)));
+              getD-set-other (set (σ .tables .forward) v empty) r x d empty n ∙ rw xv (getD-set-same (σ .tables .forward) v empty empty (omega (arith, sound .lengths .forward)));
           rest = λ x b n e.
-              getD-set-other (set (σ .forward) v empty) r x d empty n ∙ getD-set-other (σ .forward) v x empty empty (λ xv. e (ap (forwardOf σ) xv ∙ back));
+              getD-set-other (set (σ .tables .forward) v empty) r x d empty n ∙ getD-set-other (σ .tables .forward) v x empty empty (λ xv. e (ap (forwardOf σ) xv ∙ back));
           filled = reverse-filled;
           freed = reverse-freed;
           others = reverse-others;
         }
 
     -- the tables are inverse again
-    pub inverse-moved : (σ′ : State) → Relinked S σ r d (σ′ .forward) (σ′ .reverse) → Inverse S σ′
+    pub inverse-moved : (σ′ : State) → Relinked S σ r d (σ′ .tables .forward) (σ′ .tables .reverse) → Inverse S σ′
     inverse-moved σ′ L =
         record {
           forward = λ x b. elim (eq? x r) [

@@ -4,7 +4,7 @@ use native.Mathlib.Nat.{suc-ne-zero}
 use native.Mathlib.Omega.{arith}
 use mathlib.Core.Path.{_≡_, refl, sym}
 use mathlib.Core.Logic.{_⊎_, inl, inr, _≢_}
-use mathlib.Core.Bool.{Bool, true, false, cond, _||_}
+use mathlib.Core.Bool.{Bool, true, false, _||_}
 use lib.Dec.{eqb}
 use borrow.Author.Tests.{eqb-true, eqb-false, ne-eqb}
 use Rattle.geometry.proofs.Cases.{split}
@@ -85,11 +85,6 @@ stops-all P false x z h = z
 pub ladder-all : (P : ℕ → Type 0) (a b : ℕ) → P a → (a ≡ 0 → P b) → P (a ▹ b)
 unfolding _▹_
 ladder-all P a b h k = elim (split (eqb a 0)) [ inl e ↦ rw e (k (eqb-true a 0 e)) | inr e ↦ rw e h ]
-
--- rows that are looked at under a condition alone
-pub if-all : (P : ℕ → Type 0) (due : Bool) (x : ℕ) → P 0 → (due ≡ true → P x) → P (cond due x 0)
-if-all P true x z h = h refl
-if-all P false x z h = z
 
 -- ---- tests
 

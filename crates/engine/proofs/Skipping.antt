@@ -6,7 +6,7 @@ use mathlib.Core.Path.{_≡_, refl, sym, ap, _∙_}
 use mathlib.Core.Logic.{inl, inr}
 use mathlib.Core.Bool.{Bool, true, false}
 use Rattle.geometry.proofs.Cases.{split, lt?}
-use Rattle.engine.specs.Steps.{skippedOf}
+use Rattle.engine.specs.Round.{skippedOf}
 use Rattle.engine.proofs.GoneBy.{next-in}
 
 -- the slot n further on than the next

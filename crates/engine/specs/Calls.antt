@@ -10,11 +10,11 @@ use Rattle.geometry.specs.declared.Settings.{Settings}
 use Rattle.geometry.specs.Numbering.{physical}
 use Rattle.geometry.specs.Entry.{empty}
 use Rattle.row_layout.specs.Bytes.{rowBytes, written}
-use Rattle.engine.specs.declared.Access.{Access}
-use Rattle.engine.specs.declared.Access.the-variants.{Refused, Done}
-use Rattle.engine.specs.State.{State, newControl}
+use Rattle.engine.specs.declared.Reply.{Reply}
+use Rattle.engine.specs.declared.Reply.the-variants.{Refused, Done}
+use Rattle.engine.specs.State.{State, tablesOf, newControl}
 use Rattle.engine.specs.Steps.{place, tracked, move, stateAfter}
-use Rattle.engine.specs.Ladder.{setUpNumber, tickNumber, inspectNumber, accessNumber, readOff, writeOff}
+use Rattle.engine.specs.Ladder.{setUpNumber, tickNumber, inspectNumber, accessNumber, readAsked, writeAsked}
 
 -- ---- set-up and tick answer a number
 
@@ -35,8 +35,7 @@ abbrev pub cleared : Settings → State → State
 cleared S σ =
     record {
       store = σ .store;
-      forward = replicate (S .n) empty;
-      reverse = replicate (S .q) empty;
+      tables = tablesOf (replicate (S .n) empty) (replicate (S .q) empty);
       rows = replicate (S .b * S .k) empty;
       counts = replicate (S .b * S .k) 0;
       control = newControl;
@@ -54,8 +53,7 @@ abbrev pub ticked : Settings → State → State
 ticked S σ =
     record {
       store = σ .store;
-      forward = σ .forward;
-      reverse = σ .reverse;
+      tables = σ .tables;
       rows = replicate (S .b * S .k) empty;
       counts = replicate (S .b * S .k) 0;
       control = record {
@@ -69,12 +67,12 @@ ticked S σ =
 unfoldable pub tick : Settings → State → Noted
 tick S σ = noted σ (tickNumber S σ) (ticked S σ)
 
--- ---- read and write answer an `Access`
+-- ---- read and write answer a `Reply`
 
 -- buffer: the read buffer afterwards; of a write nothing
 pub record Accessed : Type 0 where
   pub state : State
-  pub answer : Access
+  pub answer : Reply
   pub buffer : List ℕ
 
 -- an access of row r with that number: the effect where it is 0, and where it is not 'Control record and all lent memory
@@ -94,14 +92,14 @@ accessed S σ r number store filled buffer =
 -- 'Read takes a row and a buffer of exactly W bytes, which it fills.'
 unfoldable pub read : Settings → State → ℕ → List ℕ → Accessed
 read S σ r buffer =
-    accessed S σ r (accessNumber S σ r (readOff S (length buffer)))
+    accessed S σ r (accessNumber S σ (readAsked S r (length buffer)))
     (σ .store)
     (rowBytes (S .w) (σ .store) (place S σ r)) buffer
 
 -- 'Write takes a row, a column and bytes; column plus count may be at most W.'
 unfoldable pub write : Settings → State → ℕ → ℕ → List ℕ → Accessed
 write S σ r column bytes =
-    accessed S σ r (accessNumber S σ r (writeOff S column (length bytes)))
+    accessed S σ r (accessNumber S σ (writeAsked S r column (length bytes)))
     (written (S .w) (σ .store) (place S σ r) column bytes)
     [] []
 

@@ -1,7 +1,7 @@
 -- Document 01, 'Where each call can stop': the number that a call answers, 0 where it is accepted. Each row of the table
 -- stands once, as `stops condition number`, with the table's condition.
 -- Assumes nothing.
-use Prim.Native.Nat.{ℕ, suc, _+_}
+use Prim.Native.Nat.{ℕ, _+_}
 use mathlib.Core.Bool.{Bool, false, cond, not, _&&_, _||_}
 use mathlib.Core.List.{List}
 use lib.Dec.{ltb, leb, eqb}
@@ -12,11 +12,12 @@ use Rattle.geometry.specs.declared.Ring.{Ring}
 use Rattle.geometry.specs.declared.Lengths.{Lengths}
 use Rattle.conditions.specs.Conditions.{rangesHold, limitHolds, lengthsHold}
 use Rattle.geometry.specs.Entry.{empty}
+use Rattle.geometry.specs.Ranges.{someBelow}
 use Rattle.scan.specs.Scan.{some}
 use Rattle.banks.specs.Portions.{portion}
-use Rattle.banks.specs.Banks.{someBank}
-use Rattle.engine.specs.State.{State, lengthsOf, trackerAt, ringOf, forwardOf}
-use Rattle.engine.specs.Steps.{place, moves, skipped, destinationFrom}
+use Rattle.engine.specs.declared.Asked.{Asked}
+use Rattle.engine.specs.State.{Tables, forwardIn, reverseIn, State, lengthsOf, trackerAt, ringOf}
+use Rattle.engine.specs.Steps.{place, moves, destination, rise}
 
 infixr 20 _▹_
 -- a row of the table: its number where its condition applies, else 0
@@ -35,7 +36,7 @@ settingsNumber S = stops (not (rangesHold S)) 1 ▹ stops (not (limitHolds S)) 2
 
 -- buffers: 'a table, tracker part or store has another length'
 unfoldable pub fitNumber : Settings → Lengths → ℕ
-fitNumber S lent = settingsNumber S ▹ stops (not (lengthsHold S lent)) 3
+fitNumber S lengths = settingsNumber S ▹ stops (not (lengthsHold S lengths)) 3
 
 -- control and tracker: 'head ≥ Q, passed > Q, ..
 unfoldable pub ringUnsound : Settings → Ring → Bool
@@ -52,46 +53,52 @@ bankUnsound S spill acts counts c = trackerUnsound S (getD spill c 0) (getD acts
 
 -- 'the record's places for banks from B on are .. not looked at' (document 02, Ask 5)
 unfoldable pub trackersUnsound : Settings → List ℕ → List ℕ → List ℕ → Bool
-trackersUnsound S spill acts counts = someBank (bankUnsound S spill acts counts) (S .b)
+trackersUnsound S spill acts counts = someBelow (bankUnsound S spill acts counts) (S .b)
 
 unfoldable pub controlUnsound : Settings → Control → List ℕ → Bool
 controlUnsound S control counts =
     ringUnsound S (ringOf control) || trackersUnsound S (control .spill) (control .acts) counts
 
+-- 1 to 4
+unfoldable pub controlNumber : Settings → Lengths → Control → List ℕ → ℕ
+controlNumber S lengths control counts = fitNumber S lengths ▹ stops (controlUnsound S control counts) 4
+
+-- what is asked of a row; span: 'read buffer not W long; ..
+abbrev pub readOff : Settings → ℕ → Bool
+readOff S count = not (eqb count (S .w))
+
+-- .. write runs past W'
+abbrev pub writeOff : Settings → ℕ → ℕ → Bool
+writeOff S column count = ltb (S .w) (column + count)
+
+abbrev pub readAsked : Settings → ℕ → ℕ → Asked
+readAsked S r count = record { row = r; off = readOff S count }
+
+abbrev pub writeAsked : Settings → ℕ → ℕ → ℕ → Asked
+writeAsked S r column count = record { row = r; off = writeOff S column count }
+
+-- a call that only looks at a row has no span
+abbrev pub lookAsked : ℕ → Asked
+lookAsked r = record { row = r; off = false }
+
 -- an entry is 65535, or below `limit` and x is what the other table has for it
 unfoldable pub pointsBack : ℕ → ℕ → List ℕ → ℕ → Bool
 pointsBack entry limit other x = eqb entry empty || (ltb entry limit && eqb (getD other entry empty) x)
 
--- row: 'row ≥ N'; span: 'read buffer not W long; write runs past W' (off: that condition, by which the calls differ);
 -- row's pointers: 'forward entry is neither 65535 nor a slot whose reverse entry names the row'
--- (entry: the row's forward entry)
-unfoldable pub rowNumber : Settings → List ℕ → ℕ → ℕ → Bool → ℕ
-rowNumber S reverse entry r off =
-    stops (leb (S .n) r) 5
-    ▹ stops off 6
-    ▹ stops (not (pointsBack entry (S .q) reverse r)) 7
+unfoldable pub rowUnsound : Settings → Tables → ℕ → Bool
+rowUnsound S tables r = not (pointsBack (forwardIn tables r) (S .q) (tables .reverse) r)
 
--- the condition of 6: 'read buffer not W long',
-abbrev pub readOff : Settings → ℕ → Bool
-readOff S count = not (eqb count (S .w))
+-- destination: 'reverse of d is neither 65535 nor a row whose forward entry names d'
+unfoldable pub destinationUnsound : Settings → Tables → ℕ → Bool
+destinationUnsound S tables d = not (pointsBack (reverseIn tables d) (S .n) (tables .forward) d)
 
--- 'write runs past W'
-abbrev pub writeOff : Settings → ℕ → ℕ → Bool
-writeOff S column count = ltb (S .w) (column + count)
-
--- of an access that would quarantine its row; over: the slots that the head skips. Quarantine: 'passed plus the rise of step
--- 4 exceeds Q'; destination: 'reverse of d is neither 65535 nor a row whose forward entry names d'
-unfoldable pub quarantineNumber : Settings → Ring → List ℕ → List ℕ → ℕ → ℕ
-quarantineNumber S ring forward reverse over =
-    let d : ℕ = destinationFrom S (ring .head) over in
-    stops (ltb (S .q) (ring .passed + suc over)) 9
-    ▹ stops (not (pointsBack (getD reverse d empty) (S .n) forward d)) 7
-
--- epoch: 'acts = L', where '8 looks at the bank of p' (document 02, Ask 5; acts: that bank's); then the two rows above, if the
--- access would quarantine its row (due)
-unfoldable pub lateNumber : Settings → Ring → ℕ → List ℕ → List ℕ → ℕ → Bool → ℕ
-lateNumber S ring acts forward reverse over due =
-    stops (eqb acts (S .l)) 8 ▹ cond due (quarantineNumber S ring forward reverse over) 0
+-- row: 'row ≥ N'; span; row's pointers
+unfoldable pub rowNumber : Settings → Tables → Asked → ℕ
+rowNumber S tables a =
+    stops (leb (S .n) (a .row)) 5
+    ▹ stops (a .off) 6
+    ▹ stops (rowUnsound S tables (a .row)) 7
 
 -- ---- the column 'calls' of the table
 
@@ -100,17 +107,20 @@ abbrev pub setUpNumber : Settings → State → ℕ
 setUpNumber S σ = fitNumber S (lengthsOf σ)
 
 -- tick
-unfoldable pub tickNumber : Settings → State → ℕ
-tickNumber S σ = setUpNumber S σ ▹ stops (controlUnsound S (σ .control) (σ .counts)) 4
+abbrev pub tickNumber : Settings → State → ℕ
+tickNumber S σ = controlNumber S (lengthsOf σ) (σ .control) (σ .counts)
 
--- inspect, of row r; it has no span
+-- inspect, of row r
 unfoldable pub inspectNumber : Settings → State → ℕ → ℕ
-inspectNumber S σ r = tickNumber S σ ▹ rowNumber S (σ .reverse) (forwardOf σ r) r false
+inspectNumber S σ r = tickNumber S σ ▹ rowNumber S (σ .tables) (lookAsked r)
 
--- read and write, of row r
-unfoldable pub accessNumber : Settings → State → ℕ → Bool → ℕ
-accessNumber S σ r off =
+-- read and write. Epoch: 'acts = L', where '8 looks at the bank of p' (document 02, Ask 5); quarantine: 'the access would
+-- quarantine and passed plus the rise of step 4 exceeds Q'; destination, which is that of an access that would quarantine
+unfoldable pub accessNumber : Settings → State → Asked → ℕ
+accessNumber S σ a =
+    let r : ℕ = a .row in
     tickNumber S σ
-    ▹ rowNumber S (σ .reverse) (forwardOf σ r) r off
-    ▹ lateNumber S (ringOf (σ .control)) (trackerAt S σ (place S σ r) .acts)
-    (σ .forward) (σ .reverse) (skipped S σ r) (moves S σ r)
+    ▹ rowNumber S (σ .tables) a
+    ▹ stops (eqb (trackerAt S σ (place S σ r) .acts) (S .l)) 8
+    ▹ stops (moves S σ r && ltb (S .q) (σ .control .passed + rise S σ r)) 9
+    ▹ stops (moves S σ r && destinationUnsound S (σ .tables) (destination S σ r)) 7

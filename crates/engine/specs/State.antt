@@ -2,45 +2,66 @@
 -- Assumes nothing.
 use Prim.Native.Nat.{ℕ}
 use mathlib.Core.List.{List}
-use lib.ListN.{length, getD, replicate}
+use denote.Ref.{now}
+use lib.ListN.{getD, replicate}
 use Rattle.geometry.specs.declared.Settings.{Settings}
 use Rattle.geometry.specs.declared.Control.{Control}
 use Rattle.geometry.specs.declared.Ring.{Ring}
 use Rattle.geometry.specs.declared.Lengths.{Lengths}
 use Rattle.geometry.specs.Entry.{empty}
+use Rattle.geometry.specs.Lent.{Slice, lengthsBy}
 use Rattle.banks.specs.Portions.{portion, withPortion}
-use Rattle.banks.specs.Banks.{mostBanks, bankOf, withNumbers}
+use Rattle.banks.specs.Banks.{mostBanks, bankOf, withBank}
+
+-- the pointer tables, 'a forward table of N 16-bit numbers and a reverse table of Q 16-bit numbers'
+pub record Tables : Type 0 where
+  pub forward : List ℕ
+  pub reverse : List ℕ
+
+abbrev pub tablesOf : List ℕ → List ℕ → Tables
+tablesOf forward reverse = record { forward = forward; reverse = reverse }
+
+-- the forward entry of a visible row, and the reverse entry of a slot (past a table's end nothing is named)
+abbrev pub forwardIn : Tables → ℕ → ℕ
+forwardIn tables r = getD (tables .forward) r empty
+
+abbrev pub reverseIn : Tables → ℕ → ℕ
+reverseIn tables s = getD (tables .reverse) s empty
 
 pub record State : Type 0 where
   pub store : List ℕ
-  pub forward : List ℕ
-  pub reverse : List ℕ
+  pub tables : Tables
   -- tracker rows and tracker counts: 'B × K entries, bank after bank' (document 02, Ask 5)
   pub rows : List ℕ
   pub counts : List ℕ
   pub control : Control
 
--- what the slices and the control record of a call hold, as one state
 abbrev pub stateOf : List ℕ → List ℕ → List ℕ → List ℕ → List ℕ → Control → State
 stateOf store forward reverse rows counts control =
-    record { store = store; forward = forward; reverse = reverse; rows = rows; counts = counts; control = control }
+    record { store = store; tables = tablesOf forward reverse; rows = rows; counts = counts; control = control }
 
 abbrev pub lengthsOf : State → Lengths
-lengthsOf σ =
-    record {
-      store = length (σ .store);
-      forward = length (σ .forward);
-      reverse = length (σ .reverse);
-      rows = length (σ .rows);
-      counts = length (σ .counts);
-    }
+lengthsOf σ = lengthsBy (σ .store) (σ .tables .forward) (σ .tables .reverse) (σ .rows) (σ .counts)
 
--- the forward entry of a visible row, and the reverse entry of a slot (past a table's end nothing is named)
 abbrev pub forwardOf : State → ℕ → ℕ
-forwardOf σ r = getD (σ .forward) r empty
+forwardOf σ r = forwardIn (σ .tables) r
 
 abbrev pub reverseOf : State → ℕ → ℕ
-reverseOf σ s = getD (σ .reverse) s empty
+reverseOf σ s = reverseIn (σ .tables) s
+
+-- ---- what a call is lent, as its contract names it: before the call, and after it
+
+abbrev pub entering : Slice → Slice → Slice → Slice → Slice → Control → State
+entering store forward reverse rows counts control =
+    stateOf (now (store .entry)) (now (forward .entry)) (now (reverse .entry)) (now (rows .entry)) (now (counts .entry)) control
+
+abbrev pub leaving : Slice → Slice → Slice → Slice → Slice → Control → State
+leaving store forward reverse rows counts control =
+    stateOf (now (store .exit)) (now (forward .exit)) (now (reverse .exit)) (now (rows .exit)) (now (counts .exit)) control
+
+-- the pointer tables alone, which the call does not write
+abbrev pub tablesIn : Slice → Slice → Tables
+tablesIn forward reverse = tablesOf (now (forward .entry)) (now (reverse .entry))
 
 -- ---- parts of it
 
@@ -82,19 +103,26 @@ abbrev pub withTracker : Settings → State → ℕ → Tracker → State
 withTracker S σ c t =
     record {
       store = σ .store;
-      forward = σ .forward;
-      reverse = σ .reverse;
+      tables = σ .tables;
       rows = withPortion (S .k) c (σ .rows) (t .rows);
       counts = withPortion (S .k) c (σ .counts) (t .counts);
-      control = withNumbers (σ .control) (ringOf (σ .control)) c (t .spill) (t .acts);
+      control = withBank (σ .control) (ringOf (σ .control)) (record { index = c; spill = t .spill; acts = t .acts });
     }
 
 -- where the rows are: the store, the pointer tables, `head` and `passed`, all that step 4 reads and writes
 pub record Storage : Type 0 where
   pub store : List ℕ
-  pub forward : List ℕ
-  pub reverse : List ℕ
+  pub tables : Tables
   pub ring : Ring
 
 abbrev pub storageOf : List ℕ → List ℕ → List ℕ → Ring → Storage
-storageOf store forward reverse ring = record { store = store; forward = forward; reverse = reverse; ring = ring }
+storageOf store forward reverse ring = record { store = store; tables = tablesOf forward reverse; ring = ring }
+
+-- the same as a contract names it
+abbrev pub storageEntering : Slice → Slice → Slice → Ring → Storage
+storageEntering store forward reverse ring =
+    storageOf (now (store .entry)) (now (forward .entry)) (now (reverse .entry)) ring
+
+abbrev pub storageLeaving : Slice → Slice → Slice → Ring → Storage
+storageLeaving store forward reverse ring =
+    storageOf (now (store .exit)) (now (forward .exit)) (now (reverse .exit)) ring

@@ -1,28 +1,26 @@
 -- Document 01, 'One access': what an accepted read or write of row r does, step by step; with document 02, Ask 4, on where a
 -- row is moved to, and Ask 5, on banks.
 -- Assumes nothing.
-use Prim.Native.Nat.{ℕ, zero, suc, _+_, _-_, _%_}
+use Prim.Native.Nat.{ℕ, suc, _+_, _%_}
 use mathlib.Core.Bool.{Bool, cond, _||_}
 use mathlib.Core.List.{List}
 use lib.Dec.{eqb}
-use lib.ListN.{getD, set}
+use lib.ListN.{set}
 use Rattle.geometry.specs.declared.Settings.{Settings}
-use Rattle.geometry.specs.declared.Ring.{Ring}
 use Rattle.geometry.specs.Numbering.{visible, slot, homeRow, slotRow}
 use Rattle.geometry.specs.Entry.{empty}
+use Rattle.geometry.specs.Place.{placeBy}
 use Rattle.tracking.specs.Track.{Tracked, track, isDue}
 use Rattle.tracking.specs.Worn.{worn}
 use Rattle.banks.specs.Banks.{bankOf}
 use Rattle.row_layout.specs.Bytes.{copied}
 use Rattle.engine.specs.declared.Move.{Move}
 use Rattle.engine.specs.declared.Move.the-variants.{Stayed, ToSlot, OverSlot}
-use Rattle.engine.specs.State.{State, Tracker, Storage, trackerAt, withTracker, storageOf}
-use Rattle.engine.specs.State.{ringOf, controlOf, forwardOf, reverseOf}
+use Rattle.engine.specs.State.{State, Tracker, Storage, trackerAt, withTracker}
+use Rattle.engine.specs.State.{ringOf, controlOf, forwardIn, forwardOf, reverseOf}
+use Rattle.engine.specs.Round.{skippedOf, destinationFrom, riseTo}
 
 -- 1. 'Place p: slot s's physical row if the row's forward entry is s, else its home.'
-abbrev pub placeBy : Settings → ℕ → ℕ → ℕ
-placeBy S entry r = cond (eqb entry empty) (homeRow r) (slotRow S entry)
-
 abbrev pub place : Settings → State → ℕ → ℕ
 place S σ r = placeBy S (forwardOf σ r) r
 
@@ -55,31 +53,17 @@ skips S σ r s =
     let t : Tracker = trackerAt S (counted S σ r) (slotRow S s) in
     eqb (forwardOf σ r) s || worn (S .a) (t .rows) (t .counts) (slotRow S s)
 
--- of k slots from s on, round q, how many are skipped before the first that is not; all k where there is none such
-unfoldable pub skippedOf : (ℕ → Bool) → ℕ → ℕ → ℕ → ℕ
-skippedOf skip q zero s = 0
-skippedOf skip q (suc k) s = cond (skip s) (suc (skippedOf skip q k ((s + 1) % q))) 0
-
 -- of all slots from `head` on
 abbrev pub skipped : Settings → State → ℕ → ℕ
 skipped S σ r = skippedOf (skips S σ r) (S .q) (S .q) (σ .control .head)
 
--- 'The destination is the first slot from `head` on that isn't passed' (over: how many are skipped; Q of them where there is
--- no such slot, and then 9 is answered)
-unfoldable pub destinationFrom : Settings → ℕ → ℕ → ℕ
-destinationFrom S head over = (head + over) % S .q
-
+-- 'The destination is the first slot from `head` on that isn't passed'
 abbrev pub destination : Settings → State → ℕ → ℕ
 destination S σ r = destinationFrom S (σ .control .head) (skipped S σ r)
 
 -- '`passed` rises by the slots passed plus one'
 abbrev pub rise : Settings → State → ℕ → ℕ
 rise S σ r = suc (skipped S σ r)
-
--- told by the destination d: the slots from `head` to d, d among them (`rise-is` of proofs/Moves.antt: where there is a
--- destination, the two are the same)
-unfoldable pub riseTo : Settings → ℕ → ℕ → ℕ
-riseTo S head d = (d + S .q - head) % S .q + 1
 
 -- 'If the reverse entry of d names a row v': where the row goes, and which row is sent home (held: d's reverse entry)
 abbrev pub moveInto : ℕ → ℕ → Move
@@ -91,62 +75,48 @@ move S σ r =
     let d : ℕ = destination S σ r in
     cond (moves S σ r) (moveInto d (reverseOf σ d)) Stayed
 
--- 'slot d is copied to v's home .. Then p is copied to slot d.'
-abbrev pub storeAfter : Settings → List ℕ → ℕ → Move → List ℕ
-storeAfter S store p Stayed = store
-storeAfter S store p (ToSlot d) = copied (S .w) store p (slotRow S (d .0))
-storeAfter S store p (OverSlot d v) =
-    copied (S .w) (copied (S .w) store (slotRow S (d .0)) (homeRow (v .0))) p (slotRow S (d .0))
+-- ---- what is left
 
--- 'v's forward entry emptied .. forward of the row becomes d'
-abbrev pub forwardAfter : List ℕ → ℕ → Move → List ℕ
-forwardAfter forward r Stayed = forward
-forwardAfter forward r (ToSlot d) = set forward r (d .0)
-forwardAfter forward r (OverSlot d v) = set (set forward (v .0) empty) r (d .0)
+-- 'slot d is copied to v's home and v's forward entry emptied'
+abbrev pub sentHome : Settings → ℕ → ℕ → Storage → Storage
+sentHome S d v was =
+    record {
+      store = copied (S .w) (was .store) (slotRow S d) (homeRow v);
+      tables = record { forward = set (was .tables .forward) v empty; reverse = was .tables .reverse };
+      ring = was .ring;
+    }
 
 -- 'If p was a slot, its reverse entry is emptied.' (entry: the row's forward entry before)
 abbrev pub left : List ℕ → ℕ → List ℕ
 left reverse entry = cond (eqb entry empty) reverse (set reverse entry empty)
 
--- 'Reverse of d becomes the row'
-abbrev pub reverseAfter : List ℕ → ℕ → ℕ → Move → List ℕ
-reverseAfter reverse entry r Stayed = reverse
-reverseAfter reverse entry r (ToSlot d) = set (left reverse entry) (d .0) r
-reverseAfter reverse entry r (OverSlot d v) = set (left reverse entry) (d .0) r
-
--- '`head` becomes (d + 1) mod Q'
-abbrev pub headAfter : Settings → ℕ → Move → ℕ
-headAfter S head Stayed = head
-headAfter S head (ToSlot d) = (d .0 + 1) % S .q
-headAfter S head (OverSlot d v) = (d .0 + 1) % S .q
-
--- '.. and `passed` rises'
-abbrev pub passedAfter : Settings → Ring → Move → ℕ
-passedAfter S ring Stayed = ring .passed
-passedAfter S ring (ToSlot d) = ring .passed + riseTo S (ring .head) (d .0)
-passedAfter S ring (OverSlot d v) = ring .passed + riseTo S (ring .head) (d .0)
-
--- ---- what is left
-
--- by 4, of row r at place p
-abbrev pub relocated : Settings → ℕ → ℕ → Move → Storage → Storage
-relocated S r p m was =
+-- 'p is copied to slot d. .. Reverse of d becomes the row, forward of the row becomes d. `head` becomes (d + 1) mod Q and
+-- `passed` rises' (r: the row, entry: its forward entry before)
+abbrev pub movedTo : Settings → ℕ → ℕ → ℕ → ℕ → Storage → Storage
+movedTo S r entry p d was =
     record {
-      store = storeAfter S (was .store) p m;
-      forward = forwardAfter (was .forward) r m;
-      reverse = reverseAfter (was .reverse) (getD (was .forward) r empty) r m;
-      ring = record { head = headAfter S (was .ring .head) m; passed = passedAfter S (was .ring) m };
+      store = copied (S .w) (was .store) p (slotRow S d);
+      tables = record {
+        forward = set (was .tables .forward) r d;
+        reverse = set (left (was .tables .reverse) entry) d r;
+      };
+      ring = record { head = (d + 1) % S .q; passed = was .ring .passed + riseTo S (was .ring .head) d };
     }
+
+-- by 4, of row r at place p: 'If the reverse entry of d names a row v, slot d is copied to v's home .. Then p is copied'
+abbrev pub relocated : Settings → ℕ → ℕ → Move → Storage → Storage
+relocated S r p Stayed was = was
+relocated S r p (ToSlot d) was = movedTo S r (forwardIn (was .tables) r) p (d .0) was
+relocated S r p (OverSlot d v) was = movedTo S r (forwardIn (was .tables) r) p (d .0) (sentHome S (d .0) (v .0) was)
 
 -- by all four, with the move that was decided (store: with the bytes written at p, if it is a write)
 abbrev pub settled : Settings → State → ℕ → List ℕ → Move → State
 settled S σ r store m =
     let t : State = counted S σ r in
-    let now : Storage = relocated S r (place S σ r) m (storageOf store (σ .forward) (σ .reverse) (ringOf (σ .control))) in
+    let now : Storage = relocated S r (place S σ r) m (record { store = store; tables = σ .tables; ring = ringOf (σ .control) }) in
     record {
       store = now .store;
-      forward = now .forward;
-      reverse = now .reverse;
+      tables = now .tables;
       rows = t .rows;
       counts = t .counts;
       control = controlOf (now .ring) (t .control .spill) (t .control .acts);

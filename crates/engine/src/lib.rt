@@ -1,7 +1,7 @@
-// What the engine of one rank answers. What each call does and answers stands in specs/: `Steps` (one access), `Ladder`
-// (the refusals) and `Calls` (the five calls). The code that meets it: crates `ladder`, `verdict`, `seek`, `settle`,
-// `upkeep`, `look` and `access`. The definitions answer an access by the enums here, the code by their numbers (crate
-// `figures`).
+// What the engine of one rank is asked and answers. What each call does and answers stands in specs/: `Steps` (one access),
+// `Ladder` (the refusals) and `Calls` (the five calls). The code that meets it: crates `ladder`, `verdict`, `seek`,
+// `settle`, `epoch`, `look` and `access`. The definitions answer an access by the enums here, the code by their numbers
+// (crate `figures`).
 use geometry::PhysicalRow;
 use geometry::Slot;
 use geometry::VisibleRow;
@@ -25,6 +25,14 @@ pub const EPOCH: u32 = 8;
 
 pub const QUARANTINE: u32 = 9;
 
+// What is asked of a row.
+pub struct Asked {
+    // the row, whatever its number
+    pub row: u32,
+    // whether its span is off, by which the calls differ
+    pub off: bool,
+}
+
 // Where an accepted access left its row.
 pub enum Move {
     // where it was
@@ -36,7 +44,7 @@ pub enum Move {
 }
 
 // The answer of a read or a write.
-pub enum Access {
+pub enum Reply {
     // the refusal's number
     Refused(u32),
     // the place that the row had, the tracker's estimate after the access (0 for none), and where the row was left

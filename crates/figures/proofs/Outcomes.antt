@@ -4,7 +4,7 @@ use Prim.Native.Nat.{ℕ}
 use mathlib.Core.Path.{_≡_, refl}
 use Rattle.geometry.specs.Numbering.{slot, physical, visible}
 use Rattle.geometry.specs.Entry.{empty}
-use Rattle.engine.specs.declared.Access.the-variants.{Refused, Done}
+use Rattle.engine.specs.declared.Reply.the-variants.{Refused, Done}
 use Rattle.engine.specs.declared.Move.the-variants.{Stayed, ToSlot, OverSlot}
 use Rattle.figures.specs.Outcome.{outcomeOf}
 

@@ -2,8 +2,10 @@
 // Every function answers for any argument.
 ghost use mathlib.Core.Path.{_≡_};
 ghost use lib.ListN.{length, replicate};
-ghost use Rattle.geometry.specs.Numbering.{homeOf, slotRowOf};
+ghost use Rattle.geometry.specs.Numbering.{physical, homeOf, slotRowOf};
 ghost use Rattle.geometry.specs.Entry.{empty, isEmpty, forwardEntryOf, slotOf, reverseEntryOf, rowOf};
+ghost use Rattle.geometry.specs.Place.{placeBy};
+ghost use Rattle.geometry.specs.Lent.{lengthsIn};
 
 // The settings, by the letters of document 01.
 #[repr(C)]
@@ -62,6 +64,25 @@ pub struct Lengths {
     pub rows: usize,
     // tracker counts
     pub counts: usize,
+}
+
+// Returns the lengths of what is lent.
+pub fn lengths_of(
+    store: &[u8],
+    forward: &[u16],
+    reverse: &[u16],
+    rows: &[u16],
+    counts: &[u32],
+) -> Lengths
+    ensures { λ r. ⌜ r ≡ lengthsIn store forward reverse rows counts ⌝ }
+{
+    Lengths {
+        store: store.len(),
+        forward: forward.len(),
+        reverse: reverse.len(),
+        rows: rows.len(),
+        counts: counts.len(),
+    }
 }
 
 // A row as the guest numbers it, 0 to N - 1.
@@ -142,6 +163,16 @@ impl ReverseEntry {
     {
         VisibleRow(self.0)
     }
+}
+
+// Returns the place of a row with that forward entry (step 1).
+pub fn place(s: Settings, row: VisibleRow, entry: ForwardEntry) -> PhysicalRow
+    ensures { λ r. ⌜ r ≡ physical (placeBy s (entry .0) (row .0)) ⌝ }
+{
+    if entry.is_empty() {
+        return home(row);
+    }
+    slot_row(s, entry.slot())
 }
 
 // Every entry of a table becomes empty.

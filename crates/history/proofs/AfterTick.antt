@@ -10,16 +10,17 @@ use Rattle.tracking.proofs.View.{quotients-new}
 use Rattle.conditions.proofs.Facts.{ranges-facts, lengths-facts}
 use Rattle.engine.specs.State.{State, lengthsOf, trackerAt}
 use Rattle.engine.specs.Steps.{place, moves, rise}
+use Rattle.engine.specs.declared.Asked.{Asked}
 use Rattle.engine.specs.Ladder.{tickNumber, accessNumber}
 use Rattle.engine.specs.Calls as calls
-use Rattle.engine.specs.Tables.{Inverse}
+use Rattle.engine.specs.Inverse.{Inverse}
 use Rattle.engine.proofs.Facts.{Fit, steady, tick-facts, wanting}
 use Rattle.engine.proofs.Pointers.{Sound}
 use Rattle.engine.proofs.Trackers.{all-new}
-use Rattle.history.specs.Tally.{Tally}
-use Rattle.history.specs.Run.{Call, access, tick, inspect, rowOf}
+use Rattle.history.specs.Tally.{Tally, startAt}
+use Rattle.history.specs.Run.{access, look, Call, rank, tick, askedOf}
 use Rattle.history.specs.Demand2.{GoodAccess, NineIsGood, AcceptedAfterTick}
-use Rattle.history.proofs.Groups.{spanOff, span-good, span-in, ladder, step-number, at-9, accepted-step}
+use Rattle.history.proofs.Groups.{ladder, step-number, at-9, accepted-step}
 use Rattle.history.proofs.Invariant.{Inv}
 use Rattle.history.proofs.Access.{wanting-few}
 use Rattle.history.proofs.Calls.{inv-new, sound-ticked, access-0}
@@ -36,7 +37,7 @@ module _ (S : Settings) (σ : State) (inverse : Inverse S σ) (tick-0 : tickNumb
 
   -- a tally that has the rows where the tables have them
   asPlaced : Tally
-  asPlaced = record { place = place S σ; openings = λ p. 0; quarantines = 0 }
+  asPlaced = startAt (place S σ)
 
   begun : Inv S (calls.ticked S σ) asPlaced asPlaced
   unfolding asPlaced
@@ -61,14 +62,14 @@ module _ (S : Settings) (σ : State) (inverse : Inverse S σ) (tick-0 : tickNumb
       ]
 
   -- an access of a row in its range, with a span that is not off
-  accepted-then : (r : ℕ) (off : Bool) → r < S .n → off ≡ false → accessNumber S (calls.ticked S σ) r off ≡ 0
-  accepted-then r off row-in span-in =
-      access-0 S (calls.ticked S σ) asPlaced asPlaced begun r off row-in span-in (more-then r) (has-room r row-in)
+  accepted-then : (a : Asked) → a .row < S .n → a .off ≡ false → accessNumber S (calls.ticked S σ) a ≡ 0
+  accepted-then a row-in span-in =
+      access-0 S (calls.ticked S σ) asPlaced asPlaced begun a row-in span-in (more-then (a .row)) (has-room (a .row) row-in)
 
   good-then : (c : Call) → GoodAccess S c → ladder S (calls.ticked S σ) c ≡ 0
-  good-then (access a) g = accepted-then (rowOf a) (spanOff S a) (g .0) (span-in S a (g .1))
+  good-then (rank (access a)) g = accepted-then (askedOf S a) (g .0) (g .1)
+  good-then (rank (look x)) g = absurd g
   good-then tick g = absurd g
-  good-then (inspect r) g = absurd g
 
 pub accepted-after-tick : AcceptedAfterTick
 accepted-after-tick S σ c v e good =
@@ -77,4 +78,4 @@ accepted-after-tick S σ c v e good =
 
 pub nine-is-good : NineIsGood
 nine-is-good S σ =
-    at-9 S σ (GoodAccess S) (λ a e. let R = wanting S σ _ _ e .reached in (R .row-in, span-good S a (R .span-in)))
+    at-9 S σ (GoodAccess S) (λ a e. let R = wanting S σ _ e .reached in (R .row-in, R .span-in))

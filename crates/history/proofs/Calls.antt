@@ -3,7 +3,7 @@ use Prim.Native.Nat.{ℕ, _+_, _*_, _/_, _<_, _≤_, zero-le}
 use native.Mathlib.Omega.{arith}
 use mathlib.Core.Path.{_≡_, refl, sym, _∙_, subst}
 use mathlib.Core.Logic.{_⊎_, inl, inr, _≢_}
-use mathlib.Core.Bool.{Bool, true, false, true≢false}
+use mathlib.Core.Bool.{Bool, true, false, false≢true}
 use lib.Dec.{eqb}
 use lib.ListN.{length, length-replicate}
 use borrow.Author.Tests.{eq-eqb, ne-eqb, lt-leb}
@@ -17,21 +17,22 @@ use Rattle.banks.proofs.Banks.{bank-itself}
 use Rattle.row_layout.proofs.Laws.{length-written}
 use Rattle.engine.specs.State.{State, Tracker, lengthsOf, trackerOf, trackerAt, ringOf, forwardOf, reverseOf}
 use Rattle.engine.specs.Steps.{place, moves, skipped, destination, rise, move, stateAfter}
-use Rattle.engine.specs.Ladder.{pointsBack, rowNumber, tickNumber, inspectNumber, accessNumber}
+use Rattle.engine.specs.declared.Asked.{Asked}
+use Rattle.engine.specs.Ladder.{lookAsked, rowUnsound, destinationUnsound, rowNumber, tickNumber, inspectNumber, accessNumber}
 use Rattle.engine.specs.Calls as calls
-use Rattle.engine.specs.Tables.{Inverse}
+use Rattle.engine.specs.Inverse.{Inverse}
 use Rattle.engine.proofs.Rungs.{passes, ladder-all}
-use Rattle.engine.proofs.Facts.{Trusted, none-above-all, steady-passes, tick-passes, row-all, late-all, row-passes, row-holds, slot-holds}
-use Rattle.engine.proofs.Facts.{destinationHolds, tick-facts, Reached, accepted, accepts, wanting}
+use Rattle.engine.proofs.Facts.{Trusted, none-above-all, steady-passes, tick-passes, row-all, rows-all, row-passes, row-holds, slot-holds}
+use Rattle.engine.proofs.Facts.{tick-facts, Reached, accepted, accepts, wanting}
 use Rattle.engine.proofs.GoneBy.{gone-none}
 use Rattle.engine.proofs.Ahead.{ahead-none}
 use Rattle.engine.proofs.Pointers.{Sound, place-in}
 use Rattle.engine.proofs.Moves.{destination-in}
 use Rattle.history.specs.Tally as tally
-use Rattle.history.specs.Run.{Access, read, write, Call, access, tick, inspect, rowOf}
+use Rattle.history.specs.Run.{Access, read, write, access, look, Call, rank, tick, rowOf, askedOf, rowLooked}
 use Rattle.history.specs.Run.{Step, step, eventOf, OfAccepted, reportOf}
 use Rattle.history.specs.Demand3.{Bounded, AnswersPlace}
-use Rattle.history.proofs.Groups.{spanOff, storeBy, span-good, ladder, at-9, step-cases, of-accepted}
+use Rattle.history.proofs.Groups.{storeBy, write-within, ladder, at-9, step-cases, of-accepted}
 use Rattle.history.proofs.Openings.{here, home-bound, home-new, slot-bound, slot-new}
 use Rattle.engine.proofs.Trackers.{CountingBy, estimateFor, estimate, zero-long, all-new, quotients-most}
 use Rattle.history.proofs.Charge.{occupied-is, charge-most}
@@ -93,23 +94,23 @@ module _ (S : Settings) (σ : State) (τ₀ τ : tally.Tally) (I : Inv S σ τ�
   Carried c s =
       let told : tally.Report = reportOf (eventOf c s) in
       let τ′ : tally.Tally = tally.feed S τ told in
-      ((tally.endsEpoch told ≡ true) × Inv S σ τ₀ τ′ × Inv S (s .state) τ′ τ′)
+      ((tally.endsEpoch told ≡ true) × (τ′ ≡ tally.nextEpoch τ) × Inv S (s .state) τ′ τ′)
       ⊎ ((tally.endsEpoch told ≡ false) × Inv S (s .state) τ₀ τ′)
 
   -- step 3 keeps the store's length
-  pub store-long : (a : Access) → ladder S σ (access a) ≡ 0 → length (storeBy S σ a) ≡ (S .n + S .q) * S .w
+  pub store-long : (a : Access) → ladder S σ (rank (access a)) ≡ 0 → length (storeBy S σ a) ≡ (S .n + S .q) * S .w
   store-long (read r buffer) z = I .sound .lengths .store
   store-long (write r column bytes) z =
-      let R = accepted S σ _ _ z .reached in
+      let R = accepted S σ _ z .reached in
       length-written (S .w) (S .n + S .q) (σ .store) (place S σ r) column bytes (I .sound .lengths .store)
       (place-in S σ (I .sound) r (R .row-in))
-      (span-good S (write r column bytes) (R .span-in))
+      (write-within S r column bytes (R .span-in))
       ∙ I .sound .lengths .store
 
-  inv-accepted : (a : Access) → ladder S σ (access a) ≡ 0
+  inv-accepted : (a : Access) → ladder S σ (rank (access a)) ≡ 0
       → Inv S (stateAfter S σ (rowOf a) (storeBy S σ a)) τ₀ (tallyAfter S τ (rowOf a) (move S σ (rowOf a)))
   inv-accepted a z =
-      let A = accepted S σ _ _ z in
+      let A = accepted S σ _ z in
       inv-access S σ τ₀ τ I (rowOf a) (A .reached .row-in) (A .reached .more) (A .room) (storeBy S σ a) (store-long a z)
 
   pub carried : (c : Call) → Carried c (step S σ c)
@@ -117,8 +118,8 @@ module _ (S : Settings) (σ : State) (τ₀ τ : tally.Tally) (I : Inv S σ τ�
       step-cases S σ Carried
       (λ c n. rw (ne-eqb (ladder S σ c) 0 n) (inr (refl, I)))
       (λ a z. inr (refl, inv-accepted a z))
-      (λ z. inl (refl, I, inv-new S σ τ (I .ranges) (I .limit) (sound-ticked (I .sound .ranges) (I .sound .lengths) (I .sound .inverse)) (I .head-in) (I .places)))
-      (λ r z. inr (refl, I))
+      (λ x z. inr (refl, I))
+      (λ z. inl (refl, refl, inv-new S σ (tally.nextEpoch τ) (I .ranges) (I .limit) (sound-ticked (I .sound .ranges) (I .sound .lengths) (I .sound .inverse)) (I .head-in) (I .places)))
 
   -- in either case the invariant holds after it
   pub carried-on : (c : Call)
@@ -136,18 +137,22 @@ module _ (S : Settings) (σ : State) (τ₀ τ : tally.Tally) (I : Inv S σ τ�
             omega (arith, I .quarantines, quotients-most S σ (I .sound .ranges) (I .sound .lengths .counts) (I .counting) (I .acts-in));
       }
 
+  -- the same with the tick that ends it
+  pub bounded-ended : Bounded S (record { first = τ₀; last = tally.nextEpoch τ })
+  bounded-ended = record { homes = bounded .homes; slots = bounded .slots; quarantines = bounded .quarantines }
+
   -- ---- what is answered
 
   -- with slots enough it is not 9
   pub not-9 : 2 * (S .b * (S .l / S .a)) ≤ S .q → (c : Call) → (step S σ c) .answer .number ≢ 9
   not-9 enough =
       at-9 S σ (λ c. ⊥) (λ a e.
-      let W = wanting S σ _ _ e in
+      let W = wanting S σ _ e in
       never-wanting S σ τ₀ τ I (rowOf a) (W .reached .row-in) (W .reached .more) enough (W .moving) (W .full))
 
   -- an accepted access answers the tally's place
   pub answers-place : (c : Call) → OfAccepted (AnswersPlace τ) (eventOf c (step S σ c))
-  answers-place = of-accepted S σ (AnswersPlace τ) (λ a z. sym (I .places (rowOf a) (accepted S σ _ _ z .reached .row-in)))
+  answers-place = of-accepted S σ (AnswersPlace τ) (λ a z. sym (I .places (rowOf a) (accepted S σ _ z .reached .row-in)))
 
   -- ---- which numbers can be answered
 
@@ -176,46 +181,41 @@ module _ (S : Settings) (σ : State) (τ₀ τ : tally.Tally) (I : Inv S σ τ�
       }))
 
   -- a row's pointers hold
-  row-sure : (r : ℕ) → r < S .n → pointsBack (forwardOf σ r) (S .q) (σ .reverse) r ≡ true
+  row-sure : (r : ℕ) → r < S .n → rowUnsound S (σ .tables) r ≡ false
   row-sure r row-in = row-holds S σ r (I .sound .inverse .forward r row-in)
 
   -- inspect is refused for no row
   pub inspect-0 : (r : ℕ) → r < S .n → inspectNumber S σ r ≡ 0
   unfolding inspectNumber
-  inspect-0 r row-in = passes tick-passed (row-passes S (σ .reverse) (forwardOf σ r) r false row-in refl (row-sure r row-in))
+  inspect-0 r row-in = passes tick-passed (row-passes S (σ .tables) (lookAsked r) row-in refl (row-sure r row-in))
 
   -- a slot's pointers hold, of the destination
-  target-sure : (r : ℕ) → destinationHolds S σ (destination S σ r) ≡ true
+  target-sure : (r : ℕ) → destinationUnsound S (σ .tables) (destination S σ r) ≡ false
   target-sure r = let d : ℕ = destination S σ r in slot-holds S σ d (I .sound .inverse .reverse d (destination-in S σ r (I .head-in)))
 
   -- an access of a row in its range, with a span that is not off, and accesses left: it is past 1 to 8,
-  module _ (r : ℕ) (off : Bool) (row-in : r < S .n) (span-in : off ≡ false) (more : trackerAt S σ (place S σ r) .acts < S .l) where
-    pub is-reached : Reached S σ r off
+  module _ (a : Asked) (row-in : a .row < S .n) (span-in : a .off ≡ false) (more : trackerAt S σ (place S σ (a .row)) .acts < S .l) where
+    pub is-reached : Reached S σ a
     is-reached =
         let f = tick-facts S σ tick-passed in
-        record { fit = f .0; control = f .1; row-in = row-in; span-in = span-in; pointers = row-sure r row-in; more = more }
+        record { fit = f .0; control = f .1; row-in = row-in; span-in = span-in; pointers = row-sure (a .row) row-in; more = more }
 
     -- and accepted, where there is room for a move
-    pub access-0 : (moves S σ r ≡ true → σ .control .passed + rise S σ r ≤ S .q) → accessNumber S σ r off ≡ 0
-    access-0 room = accepts S σ r off (record { reached = is-reached; room = room; target = λ m. target-sure r })
+    pub access-0 : (moves S σ (a .row) ≡ true → σ .control .passed + rise S σ (a .row) ≤ S .q) → accessNumber S σ a ≡ 0
+    access-0 room = accepts S σ a (record { reached = is-reached; room = room; target = λ m. target-sure (a .row) })
 
   -- P holds of 0, 5, 6, 8 and 9
   module _ (P : ℕ → Type 0) (p0 : P 0) (p5 : P 5) (p6 : P 6) (p8 : P 8) (p9 : P 9) where
-    usual-row : (r : ℕ) (off : Bool) → P (rowNumber S (σ .reverse) (forwardOf σ r) r off)
-    usual-row r off =
-        row-all P p0 p5 S (σ .reverse) (forwardOf σ r) r off (λ e. p6)
-        (λ row-in e. absurd (true≢false (sym (row-sure r row-in) ∙ e)))
+    usual-row : (a : Asked) → P (rowNumber S (σ .tables) a)
+    usual-row a =
+        row-all P p0 p5 S (σ .tables) a (λ e. p6) (λ row-in e. absurd (false≢true (sym (row-sure (a .row) row-in) ∙ e)))
 
-    usual-access : (r : ℕ) (off : Bool) → P (accessNumber S σ r off)
-    unfolding accessNumber
-    usual-access r off =
-        ladder-all P _ _ (rw tick-passed p0) (λ e.
-        ladder-all P _ _ (usual-row r off) (λ f.
-        late-all P p0 p8 p9 S (ringOf (σ .control)) (trackerAt S σ (place S σ r) .acts) (σ .forward) (σ .reverse)
-        (skipped S σ r) (moves S σ r) (λ m k. absurd (true≢false (sym (target-sure r) ∙ k)))))
+    usual-access : (a : Asked) → P (accessNumber S σ a)
+    usual-access a =
+        rows-all P p0 p8 p9 S σ a (rw tick-passed p0) (usual-row a) (λ m k. absurd (false≢true (sym (target-sure (a .row)) ∙ k)))
 
     pub usual : (c : Call) → P (ladder S σ c)
     unfolding inspectNumber
-    usual (access a) = usual-access (rowOf a) (spanOff S a)
+    usual (rank (access a)) = usual-access (askedOf S a)
+    usual (rank (look x)) = ladder-all P _ _ (rw tick-passed p0) (λ e. usual-row (lookAsked (rowLooked x)))
     usual tick = rw tick-passed p0
-    usual (inspect r) = ladder-all P _ _ (rw tick-passed p0) (λ e. usual-row r false)

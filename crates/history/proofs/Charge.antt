@@ -11,8 +11,8 @@ use borrow.Author.Tests.{ne-eqb, eq-eqb, eqb-false}
 use Rattle.geometry.specs.declared.Settings.{Settings}
 use Rattle.geometry.specs.Entry.{empty}
 use Rattle.geometry.proofs.Cases.{split}
-use Rattle.banks.specs.Banks.{someBank as someBelow}
-use Rattle.banks.proofs.Banks.{bank-none as none-below, bank-fails as fails-below}
+use Rattle.geometry.specs.Ranges.{someBelow}
+use Rattle.geometry.proofs.Below.{none-below, fails-below}
 use Rattle.tracking.proofs.Tracking.{one-if}
 use Rattle.engine.specs.State.{State, forwardOf, reverseOf}
 use Rattle.engine.specs.Steps.{place}
@@ -20,7 +20,7 @@ use Rattle.engine.proofs.Pointers.{Sound, marks-none, place-is}
 use Rattle.history.specs.Tally.{Tally}
 
 -- slot s is occupied, by the tally: some row's place is there
-pub occupied : Settings → Tally → ℕ → Bool
+unfoldable pub occupied : Settings → Tally → ℕ → Bool
 occupied S τ s = someBelow (λ x. eqb (τ .place x) (S .n + s)) (S .n)
 
 abbrev pub charge : Settings → Tally → ℕ → ℕ

@@ -27,12 +27,13 @@ use Rattle.engine.proofs.Counting.{Estimated, estimated}
 use Rattle.engine.proofs.Moves.{tracks-access, slot-told}
 use Rattle.history.specs.Tally as tally
 use Rattle.history.specs.Tally.{hit}
-use Rattle.history.specs.Run.{Call, access, rowOf, Answer, Event, step, eventOf, OfAccepted}
-use Rattle.history.specs.Estimates.{Observed, unobserved, observeAccess, observe, observed, Conclusions, Concludes, Estimates}
+use Rattle.history.specs.Run.{access, Call, rank, rowOf, Answer, step, eventOf, OfAccepted}
+use Rattle.history.specs.Chain.{OfChains, AnyCall}
+use Rattle.history.specs.Estimates.{Observed, unobserved, observeAccess, observe, observed, Conclusions, Concludes, EstimatesHold, Estimates}
 use Rattle.history.proofs.Groups.{acceptedStep, refusedStep, ladder, storeBy, not-accepted, step-cases}
 use Rattle.history.proofs.Invariant.{Inv}
 use Rattle.history.proofs.Openings.{hit-same, hit-other}
-use Rattle.history.proofs.Chain.{Chain, chain-of, idle-observe}
+use Rattle.history.proofs.Chain.{lists, idle-observe}
 use Rattle.history.proofs.History.{set-up-new, inv-set-up, inv-chain, followed}
 
 -- what was observed of a place against the tracker's estimate of it
@@ -175,32 +176,29 @@ module _ (S : Settings) (σ : State) (τ₀ τ : tally.Tally) (I : Inv S σ τ�
       step-cases S σ (λ c s. Watched S (s .state) (observe o (eventOf c s)))
       (λ c n. rw (ne-eqb (ladder S σ c) 0 n) W)
       (λ a z.
-      let R = accepted S σ _ _ z .reached in
+      let R = accepted S σ _ z .reached in
       watched-access (rowOf a) (R .row-in) (R .more) (storeBy S σ a) (move S σ (rowOf a)))
+      (λ x z. W)
       (λ z. watched-new S (I .sound .ranges .b-low) σ)
-      (λ r z. W)
 
   concluded-step : (c : Call) → OfAccepted (Concludes S o ((step S σ c) .state)) (eventOf c (step S σ c))
   concluded-step =
       step-cases S σ (λ c s. OfAccepted (Concludes S o (s .state)) (eventOf c s))
       (λ c n. not-accepted (Concludes S o σ) (eventOf c (refusedStep S σ c)) n)
       (λ a z w.
-      let R = accepted S σ _ _ z .reached in
-      let answer : Answer = (acceptedStep S σ (access a)) .answer in
+      let R = accepted S σ _ z .reached in
+      let answer : Answer = (acceptedStep S σ (rank (access a))) .answer in
       let p : ℕ = place S σ (rowOf a) in
       subst (λ (t : Tracker). Conclusions S (suc (o .accesses p)) (o .latest p) (o .since p) (t .spill) answer)
       (sym (here (rowOf a) (R .row-in) (R .more) (storeBy S σ a)))
       (concluded (rowOf a) (R .row-in) (R .more) (storeBy S σ a) answer refl refl))
+      (λ x z. tt)
       (λ z. tt)
-      (λ r z. tt)
 
 -- ---- every list
 
--- any call after a chain from set-up
-pub concludes : (S : Settings) (blank : State) → (calls.setUp S blank) .number ≡ 0 → {σ : State} {es : List Event}
-    → Chain S ((calls.setUp S blank) .state) es σ → (c : Call)
-    → OfAccepted (Concludes S (observed unobserved es) ((step S σ c) .state)) (eventOf c (step S σ c))
-concludes S blank z {σ} {es} chain c =
+pub concludes : OfChains (AnyCall EstimatesHold)
+concludes S blank σ es z chain c =
     let I = inv-set-up S blank z in
     let R : Ranges S = I .sound .ranges in
     let begun : Watched S ((calls.setUp S blank) .state) unobserved =
@@ -210,4 +208,4 @@ concludes S blank z {σ} {es} chain c =
     (followed S observe observed (λ o. refl) (λ o e es. refl) (λ e o. idle-observe o) (Watched S) (watched-step S) chain tally.start tally.start I unobserved begun) c
 
 pub estimates : Estimates
-estimates S blank cs c z = concludes S blank z (chain-of S cs ((calls.setUp S blank) .state)) c
+estimates = lists (AnyCall EstimatesHold) concludes

@@ -1,35 +1,30 @@
 -- One call by its group: its number, what a refusal leaves, and what an accepted call leaves. Assumes nothing.
-use Prim.Native.Nat.{ℕ, _+_}
+use Prim.Native.Nat.{ℕ, _+_, _≤_}
 use mathlib.Core.Path.{_≡_, refl, sym, ap, _∙_, subst}
 use mathlib.Core.Logic.{inl, inr, _≢_}
-use mathlib.Core.Bool.{Bool, false}
+use mathlib.Core.Bool.{false}
 use mathlib.Core.List.{List, []}
 use lib.Dec.{eqb}
 use lib.ListN.{length}
-use borrow.Author.Tests.{eq-eqb, ne-eqb, eqb-true, eqb-false, le-ltb, ltb-false, not-false}
+use borrow.Author.Tests.{eq-eqb, ne-eqb, eqb-true, eqb-false, ltb-false}
 use Rattle.geometry.specs.declared.Settings.{Settings}
 use Rattle.geometry.specs.Numbering.{physical}
 use Rattle.geometry.proofs.Cases.{split}
 use Rattle.row_layout.specs.Bytes.{rowBytes, written}
-use Rattle.engine.specs.declared.Access.the-variants.{Done}
+use Rattle.engine.specs.declared.Reply.the-variants.{Done}
 use Rattle.engine.specs.State.{State}
 use Rattle.engine.specs.Answer.{numberOf}
 use Rattle.engine.specs.Steps.{place, tracked, move, stateAfter}
-use Rattle.engine.specs.Ladder.{tickNumber, inspectNumber, accessNumber, readOff, writeOff}
+use Rattle.engine.specs.Ladder.{tickNumber, accessNumber}
 use Rattle.engine.specs.Calls as calls
-use Rattle.engine.proofs.Facts.{tick-not-9, inspect-not-9, fails-not}
+use Rattle.engine.proofs.Facts.{tick-not-9, inspect-not-9}
 use Rattle.engine.proofs.Answers.{number-is}
-use Rattle.history.specs.Run.{Access, read, write, Call, access, tick, inspect, rowOf, accessOf}
+use Rattle.history.specs.Run.{Access, read, write, Look, access, look, Call, rank, tick}
+use Rattle.history.specs.Run.{rowOf, spanOff, askedOf, accessOf, rowLooked, lookNumber}
 use Rattle.history.specs.Run.{Answer, figureless, Step, ofAccess, step, Event, eventOf, OfAccess, OfAccepted}
 use Rattle.history.specs.Demand1.{lentBuffer, bufferOf}
-use Rattle.history.specs.Demand2.{GoodSpan}
 
 -- ---- by what a read and a write differ
-
--- the condition of 6: 'read buffer not W long; write runs past W'
-abbrev pub spanOff : Settings → Access → Bool
-spanOff S (read r buffer) = readOff S (length buffer)
-spanOff S (write r column bytes) = writeOff S column (length bytes)
 
 -- the store after step 3
 abbrev pub storeBy : Settings → State → Access → List ℕ
@@ -41,21 +36,17 @@ abbrev pub filledBy : Settings → State → Access → List ℕ
 filledBy S σ (read r buffer) = rowBytes (S .w) (σ .store) (place S σ r)
 filledBy S σ (write r column bytes) = []
 
--- the condition of 6 does not apply where the span is good, and only there
-pub span-in : (S : Settings) (a : Access) → GoodSpan S a → spanOff S a ≡ false
-span-in S (read r buffer) g = fails-not (eq-eqb (length buffer) (S .w) g)
-span-in S (write r column bytes) g = le-ltb (S .w) (column + length bytes) g
-
-pub span-good : (S : Settings) (a : Access) → spanOff S a ≡ false → GoodSpan S a
-span-good S (read r buffer) e = eqb-true (length buffer) (S .w) (not-false (eqb (length buffer) (S .w)) e)
-span-good S (write r column bytes) e = ltb-false (S .w) (column + length bytes) e
+-- a write whose span is not off ends within its row
+pub write-within : (S : Settings) (r column : ℕ) (bytes : List ℕ) → spanOff S (write r column bytes) ≡ false
+    → column + length bytes ≤ S .w
+write-within S r column bytes e = ltb-false (S .w) (column + length bytes) e
 
 -- ---- what is said of accesses alone
 
 of-access : {P : Access → Type 0} → ((a : Access) → P a) → (c : Call) → OfAccess P c
-of-access h (access a) = h a
+of-access h (rank (access a)) = h a
+of-access h (rank (look x)) = tt
 of-access h tick = tt
-of-access h (inspect r) = tt
 
 -- nothing is said of a refused call
 pub not-accepted : (P : Access → Answer → Type 0) (e : Event) → e .answer .number ≢ 0 → OfAccepted P e
@@ -66,13 +57,13 @@ module _ (S : Settings) (σ : State) where
 
   -- the number that the ladder gives for a call
   abbrev pub ladder : Call → ℕ
-  ladder (access a) = accessNumber S σ (rowOf a) (spanOff S a)
+  ladder (rank (access a)) = accessNumber S σ (askedOf S a)
+  ladder (rank (look x)) = lookNumber S σ x
   ladder tick = tickNumber S σ
-  ladder (inspect r) = inspectNumber S σ r
 
   -- a read and a write go through the same steps
   access-is : (a : Access)
-      → accessOf S σ a ≡ calls.accessed S σ (rowOf a) (ladder (access a)) (storeBy S σ a) (filledBy S σ a) (lentBuffer a)
+      → accessOf S σ a ≡ calls.accessed S σ (rowOf a) (ladder (rank (access a))) (storeBy S σ a) (filledBy S σ a) (lentBuffer a)
   unfolding calls.read calls.write
   access-is (read r buffer) = refl
   access-is (write r column bytes) = refl
@@ -80,17 +71,17 @@ module _ (S : Settings) (σ : State) where
   -- the number is the ladder's
   pub step-number : (c : Call) → (step S σ c) .answer .number ≡ ladder c
   unfolding step calls.tick calls.noted
-  step-number (access a) = ap (λ (x : calls.Accessed). numberOf (x .answer)) (access-is a) ∙ number-is S σ (rowOf a) _ _ _ _
+  step-number (rank (access a)) = ap (λ (x : calls.Accessed). numberOf (x .answer)) (access-is a) ∙ number-is S σ (rowOf a) _ _ _ _
+  step-number (rank (look x)) = refl
   step-number tick = refl
-  step-number (inspect r) = refl
 
   -- only an access is refused with 9
-  pub at-9 : (P : Call → Type 0) → ((a : Access) → ladder (access a) ≡ 9 → P (access a))
+  pub at-9 : (P : Call → Type 0) → ((a : Access) → ladder (rank (access a)) ≡ 9 → P (rank (access a)))
       → (c : Call) → (step S σ c) .answer .number ≡ 9 → P c
   unfolding step calls.tick calls.noted
-  at-9 P h (access a) e = h a (sym (step-number (access a)) ∙ e)
+  at-9 P h (rank (access a)) e = h a (sym (step-number (rank (access a))) ∙ e)
+  at-9 P h (rank (look x)) e = absurd (inspect-not-9 S σ (rowLooked x) e)
   at-9 P h tick e = absurd (tick-not-9 S σ e)
-  at-9 P h (inspect r) e = absurd (inspect-not-9 S σ r e)
 
   -- ---- what a call leaves and answers
 
@@ -100,38 +91,38 @@ module _ (S : Settings) (σ : State) where
 
   pub refused-step : (c : Call) → ladder c ≢ 0 → step S σ c ≡ refusedStep c
   unfolding step calls.tick calls.accessed calls.noted
-  refused-step (access a) n = rw (access-is a, ne-eqb (ladder (access a)) 0 n)
+  refused-step (rank (access a)) n = rw (access-is a, ne-eqb (ladder (rank (access a))) 0 n)
+  refused-step (rank (look x)) n = refl
   refused-step tick n = rw (ne-eqb (tickNumber S σ) 0 n)
-  refused-step (inspect r) n = refl
 
   -- an accepted one
   abbrev pub acceptedStep : Call → Step
-  acceptedStep (access a) =
+  acceptedStep (rank (access a)) =
       ofAccess
       (record {
         state = stateAfter S σ (rowOf a) (storeBy S σ a);
         answer = Done (physical (place S σ (rowOf a))) ((tracked S σ (rowOf a)) .estimate) (move S σ (rowOf a));
         buffer = filledBy S σ a;
       })
+  acceptedStep (rank (look x)) = record { state = σ; answer = figureless 0 [] }
   acceptedStep tick = record { state = calls.ticked S σ; answer = figureless 0 [] }
-  acceptedStep (inspect r) = record { state = σ; answer = figureless 0 [] }
 
   pub accepted-step : (c : Call) → ladder c ≡ 0 → step S σ c ≡ acceptedStep c
   unfolding step calls.tick calls.accessed calls.noted
-  accepted-step (access a) z = rw (access-is a, eq-eqb (ladder (access a)) 0 z)
+  accepted-step (rank (access a)) z = rw (access-is a, eq-eqb (ladder (rank (access a))) 0 z)
+  accepted-step (rank (look x)) z = rw z
   accepted-step tick z = rw z
-  accepted-step (inspect r) z = rw z
 
   -- What holds of each call that is refused, and in each group of each call that is accepted, holds of every call.
   pub step-cases : (P : Call → Step → Type 0)
       → ((c : Call) → ladder c ≢ 0 → P c (refusedStep c))
-      → ((a : Access) → ladder (access a) ≡ 0 → P (access a) (acceptedStep (access a)))
+      → ((a : Access) → ladder (rank (access a)) ≡ 0 → P (rank (access a)) (acceptedStep (rank (access a))))
+      → ((x : Look) → ladder (rank (look x)) ≡ 0 → P (rank (look x)) (acceptedStep (rank (look x))))
       → (ladder tick ≡ 0 → P tick (acceptedStep tick))
-      → ((r : ℕ) → ladder (inspect r) ≡ 0 → P (inspect r) (acceptedStep (inspect r)))
       → (c : Call) → P c (step S σ c)
-  step-cases P refusals accesses ticks inspects c =
+  step-cases P refusals accesses looks ticks c =
       let by-group : (c : Call) → ladder c ≡ 0 → P c (acceptedStep c) =
-      elim [ access a ↦ accesses a | tick ↦ ticks | inspect r ↦ inspects r ] in
+      elim [ rank (access a) ↦ accesses a | rank (look x) ↦ looks x | tick ↦ ticks ] in
       elim (split (eqb (ladder c) 0)) [
         | inl e ↦ let z = eqb-true (ladder c) 0 e in subst (P c) (sym (accepted-step c z)) (by-group c z)
         | inr e ↦ let n = eqb-false (ladder c) 0 e in subst (P c) (sym (refused-step c n)) (refusals c n)
@@ -139,11 +130,11 @@ module _ (S : Settings) (σ : State) where
 
   -- What holds of each accepted access and its answer is said of every call.
   pub of-accepted : (P : Access → Answer → Type 0)
-      → ((a : Access) → ladder (access a) ≡ 0 → P a ((acceptedStep (access a)) .answer))
+      → ((a : Access) → ladder (rank (access a)) ≡ 0 → P a ((acceptedStep (rank (access a))) .answer))
       → (c : Call) → OfAccepted P (eventOf c (step S σ c))
   of-accepted P h =
       step-cases (λ c s. OfAccepted P (eventOf c s))
       (λ c n. not-accepted P (eventOf c (refusedStep c)) n)
       (λ a z w. h a z)
+      (λ x z. tt)
       (λ z. tt)
-      (λ r z. tt)

@@ -14,15 +14,15 @@ use Rattle.engine.specs.Ladder.{setUpNumber}
 use Rattle.engine.specs.Calls as calls
 use Rattle.engine.proofs.Facts.{Fit, fit}
 use Rattle.engine.proofs.Trackers.{cleared-new}
-use Rattle.history.specs.Run.{Call, Event, step, eventOf, events, reportOf, Each, OneOf}
+use Rattle.history.specs.Run.{Call, Event, step, eventOf, reportOf, Each, OneOf}
 use Rattle.history.specs.Tally as tally
-use Rattle.history.specs.Demand2.{TablesInverse, Usual, OnlyUsual}
-use Rattle.history.specs.Demand3.{Bounded, NoSlotWanting, AnswersPlace, PlacesAnswered, Kept, Demand3}
+use Rattle.history.specs.Chain.{Idle, Chain, end, call, idle, OfChains, AnyCall}
+use Rattle.history.specs.Demand2.{InverseHolds, TablesInverse, Usual, UsualHolds, OnlyUsual}
+use Rattle.history.specs.Demand3.{Bounded, NoSlotWanting, AnswersPlace, PlacesAnswered, Demand3Holds, Demand3}
 use Rattle.history.proofs.Invariant.{Inv}
 use Rattle.history.proofs.Groups.{step-number}
-use Rattle.history.proofs.Calls.{inv-new, sound-ticked, carried, carried-on, bounded, not-9, answers-place, usual}
-use Rattle.history.proofs.Chain.{Chain, end, call, idle, chain-of}
-use Rattle.history.proofs.Chain.{Idle, idle-feed, idle-runs, idle-not-9, idle-accepted}
+use Rattle.history.proofs.Calls.{inv-new, sound-ticked, carried, carried-on, bounded, bounded-ended, not-9, answers-place, usual}
+use Rattle.history.proofs.Chain.{lists, each-call, idle-feed, idle-runs, idle-not-9, idle-accepted}
 
 -- ---- set-up
 
@@ -85,7 +85,7 @@ module _ (S : Settings) where
   epochs-bounded (end {σ}) τ₀ τ I = (bounded S σ τ₀ τ I, tt)
   epochs-bounded (call {σ} c rest) τ₀ τ I =
       elim (carried S σ τ₀ τ I c) [
-        | inl v ↦ rw (v .0) (bounded S σ τ₀ _ (v .1), epochs-bounded rest _ _ (v .2))
+        | inl v ↦ rw (v .0) (rw (v .1) (bounded-ended S σ τ₀ τ I), epochs-bounded rest _ _ (v .2))
         | inr v ↦ rw (v .0) (epochs-bounded rest τ₀ _ (v .1))
       ]
   epochs-bounded (idle z rest) τ₀ τ I = rw (idle-runs z, idle-feed S τ z) (epochs-bounded rest τ₀ τ I)
@@ -113,10 +113,9 @@ module _ (S : Settings) {O : Type 0} (one : O → Event → O) (all : O → List
 
 -- ---- the theorems
 
--- demand 3, of every chain from set-up
-pub kept : (S : Settings) (σ : State) → (calls.setUp S σ) .number ≡ 0 → {σ′ : State} {es : List Event} → Chain S ((calls.setUp S σ) .state) es σ′ → Kept S es
-kept S σ z chain =
-    let I = inv-set-up S σ z in
+pub kept : OfChains Demand3Holds
+kept S blank σ′ es z chain =
+    let I = inv-set-up S blank z in
     record {
       bounded = epochs-bounded S chain tally.start tally.start I;
       enough = λ q. each S NoSlotWanting (λ e k. idle-not-9 k) (λ σ τ₀ τ I c. not-9 S σ τ₀ τ I q c) chain tally.start tally.start I;
@@ -124,23 +123,26 @@ kept S σ z chain =
     }
 
 pub demand-3 : Demand3
-demand-3 S σ cs z = kept S σ z (chain-of S cs ((calls.setUp S σ) .state))
+demand-3 = lists Demand3Holds kept
+
+pub inverse-kept : OfChains InverseHolds
+inverse-kept S blank σ es z chain = inv-chain S chain tally.start tally.start (inv-set-up S blank z) .2 .sound .inverse
 
 pub tables-inverse : TablesInverse
-tables-inverse S σ cs z = inv-chain S (chain-of S cs ((calls.setUp S σ) .state)) tally.start tally.start (inv-set-up S σ z) .2 .sound .inverse
+tables-inverse = lists InverseHolds inverse-kept
 
 -- the number of a call under the invariant
-pub usual-number : (S : Settings) (σ : State) (τ₀ τ : tally.Tally) → Inv S σ τ₀ τ
+usual-number : (S : Settings) (σ : State) (τ₀ τ : tally.Tally) → Inv S σ τ₀ τ
     → (c : Call) → Usual (eventOf c (step S σ c))
 usual-number S σ τ₀ τ I c =
     rw (step-number S σ c)
     (usual S σ τ₀ τ I (OneOf (0 ∷ 5 ∷ 6 ∷ 8 ∷ 9 ∷ []))
     (inl refl) (inr (inl refl)) (inr (inr (inl refl))) (inr (inr (inr (inl refl)))) (inr (inr (inr (inr (inl refl))))) c)
 
-only-usual-from : (S : Settings) (cs : List Call) (σ : State) (τ₀ τ : tally.Tally) → Inv S σ τ₀ τ → Each Usual (events S σ cs)
-only-usual-from S [] σ τ₀ τ I = tt
-only-usual-from S (c ∷ cs) σ τ₀ τ I =
-    (usual-number S σ τ₀ τ I c, only-usual-from S cs _ _ _ (carried-on S σ τ₀ τ I c .1))
+pub next-usual : OfChains (AnyCall UsualHolds)
+next-usual S blank σ es z chain =
+    let J = inv-chain S chain tally.start tally.start (inv-set-up S blank z) in
+    usual-number S σ (J .0) (J .1) (J .2)
 
 pub only-usual : OnlyUsual
-only-usual S σ cs z = only-usual-from S cs ((calls.setUp S σ) .state) tally.start tally.start (inv-set-up S σ z)
+only-usual S blank cs z = each-call S ((calls.setUp S blank) .state) Usual (λ σ es. next-usual S blank σ es z) cs end

@@ -13,7 +13,7 @@ use Rattle.banks.specs.Banks.{bankOf}
 use Rattle.tracking.proofs.Spare.{busy, busy-new}
 use Rattle.tracking.proofs.View.{estimate-new}
 use Rattle.engine.specs.State.{State, trackerAt, forwardOf, reverseOf}
-use Rattle.engine.specs.Steps.{placeBy}
+use Rattle.geometry.specs.Place.{placeBy}
 use Rattle.engine.specs.Calls.{setUp, cleared, ticked}
 use Rattle.engine.proofs.Trackers.{estimateFor, estimate, all-new}
 use Rattle.history.specs.Tally.{Tally, start}

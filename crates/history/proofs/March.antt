@@ -12,7 +12,7 @@ use Rattle.geometry.specs.Entry.{empty}
 use Rattle.geometry.proofs.Cases.{split, eq?, lt?}
 use Rattle.banks.specs.Banks.{bankOf}
 use Rattle.tracking.proofs.Tracking.{one-if}
-use Rattle.engine.specs.Steps.{placeBy}
+use Rattle.geometry.specs.Place.{placeBy}
 use Rattle.history.specs.Tight.{oneShort, eachRead}
 use Rattle.history.proofs.Known.{Picture, plusAt, placeIn, afterReads, Fits, afterQuarantine}
 use Rattle.history.proofs.Play.{Course, goes, Play, done, go}

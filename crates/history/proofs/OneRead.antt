@@ -19,17 +19,19 @@ use Rattle.engine.specs.declared.Move.{Move}
 use Rattle.engine.specs.declared.Move.the-variants.{Stayed}
 use Rattle.engine.specs.State.{State, Tracker, trackerAt, forwardOf, reverseOf}
 use Rattle.engine.specs.Answer.{slotMovedTo, rowSentHome}
-use Rattle.engine.specs.Steps.{placeBy, place, tracked, counted, moves, skips, skippedOf, skipped, destinationFrom, destination, rise}
-use Rattle.engine.specs.Steps.{headAfter, move, settled}
-use Rattle.engine.proofs.Facts.{refuses}
+use Rattle.geometry.specs.Place.{placeBy}
+use Rattle.engine.specs.declared.Asked.{Asked}
+use Rattle.engine.specs.Round.{skippedOf, destinationFrom}
+use Rattle.engine.specs.Steps.{place, tracked, counted, moves, skips, skipped, destination, rise, move, settled}
+use Rattle.engine.proofs.Facts.{fails-not, refuses}
 use Rattle.engine.proofs.Skipping.{skip-none, skip-same}
 use Rattle.engine.proofs.Pointers.{marks-none, place-in}
 use Rattle.engine.proofs.Trackers.{estimate, TracksAt}
 use Rattle.engine.proofs.Counting.{Estimated, by-bank, estimated}
 use Rattle.engine.proofs.Moves.{into-slot, into-row, Moved, Fate, stays, goes, ousts}
-use Rattle.history.specs.Run.{read}
+use Rattle.history.specs.Run.{read, askedOf}
 use Rattle.history.specs.Tight.{readOf}
-use Rattle.history.proofs.Groups.{spanOff, span-in, ladder}
+use Rattle.history.proofs.Groups.{ladder}
 use Rattle.history.proofs.Invariant.{Inv}
 use Rattle.history.proofs.Access as access
 use Rattle.history.proofs.Calls.{is-reached, access-0}
@@ -139,14 +141,14 @@ module _ {S : Settings} {σ : State} {P : Picture} {r : ℕ} {used acts : ℕ �
 
   -- ---- its number
 
-  abbrev off : Bool
-  off = spanOff S (read r (0 ∷ []))
+  abbrev asked : Asked
+  asked = askedOf S (read r (0 ∷ []))
 
-  span : off ≡ false
-  span = span-in S (read r (0 ∷ [])) (sym (K .narrow))
+  span : asked .off ≡ false
+  span = fails-not (eq-eqb 1 (S .w) (sym (K .narrow)))
 
   number-0 : (moves S σ r ≡ true → σ .control .passed + rise S σ r ≤ S .q) → ladder S σ (readOf r) ≡ 0
-  number-0 = access-0 S σ (K .τ₀) (K .τ) I r off (F .row-in) span acts-more
+  number-0 = access-0 S σ (K .τ₀) (K .τ) I asked (F .row-in) span acts-more
 
   -- ---- the row stays
 
@@ -197,8 +199,8 @@ module _ {S : Settings} {σ : State} {P : Picture} {r : ℕ} {used acts : ℕ �
     wants-once full =
         let over : skipped S σ r ≡ skippedOf (λ s. leb (S .a) (after .estimates (S .n + s))) (S .q) (S .q) (P .head) =
         ap (skippedOf (skips S σ r) (S .q) (S .q)) (sh .head-is) ∙ skip-same _ _ (S .q) (S .q) (P .head) head-in skips-is in
-        refuses S σ r off
-        (record { reached = is-reached S σ (K .τ₀) (K .τ) I r off (F .row-in) span acts-more; moving = moving; full = omega (arith, over, sh .passed-is) })
+        refuses S σ asked
+        (record { reached = is-reached S σ (K .τ₀) (K .τ) I asked (F .row-in) span acts-more; moving = moving; full = omega (arith, over, sh .passed-is) })
 
     -- .. and goes to the slot at the head, which is not worn
     module _ (free : after .estimates (S .n + P .head) < S .a) (room : P .passed + 1 ≤ S .q) where
@@ -228,7 +230,7 @@ module _ {S : Settings} {σ : State} {P : Picture} {r : ℕ} {used acts : ℕ �
           (into-row (destination S σ r) (reverseOf σ (destination S σ r)) ∙ ap (reverseOf σ) to-head ∙ sh .reverse-is (P .head) head-in)
 
       shown-at : (d : ℕ) (m : Move) → Moved S σ r (σ .store) d (settled S σ r (σ .store) m) → d ≡ P .head
-          → headAfter S (σ .control .head) m ≡ (d + 1) % S .q → Shown S (settled S σ r (σ .store) m) (afterQuarantine S after r)
+          → (settled S σ r (σ .store) m) .control .head ≡ (d + 1) % S .q → Shown S (settled S σ r (σ .store) m) (afterQuarantine S after r)
       shown-at d m M at next =
           let L = M .links in
           let σ′ : State = settled S σ r (σ .store) m in

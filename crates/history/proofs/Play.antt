@@ -9,8 +9,8 @@ use lib.Dec.{leb}
 use lib.ListN.{replicate}
 use Rattle.geometry.specs.declared.Settings.{Settings}
 use Rattle.engine.specs.State.{State}
-use Rattle.engine.specs.Steps.{skippedOf}
-use Rattle.history.specs.Tally.{Report, Tally, hit, afterAccess, feed, endsEpoch, Stretch, epochs}
+use Rattle.engine.specs.Round.{skippedOf}
+use Rattle.history.specs.Tally.{Report, Tally, hit, withOpenings, afterAccess, nextEpoch, feed, endsEpoch, Stretch, epochs}
 use Rattle.history.specs.Run.{Each}
 use Rattle.history.specs.Window.{fed, ticksIn}
 use Rattle.history.specs.Tight.{Part, reads, ticks, readOf, callsOf}
@@ -93,10 +93,6 @@ module _ {S : Settings} where
 
 -- ---- the tally
 
--- with other openings
-abbrev pub withOpenings : Tally → (ℕ → ℕ) → Tally
-withOpenings τ o = record { place = τ .place; openings = o; quarantines = τ .quarantines }
-
 -- row r is read n times where it is
 abbrev pub readAt : Tally → ℕ → ℕ → Tally
 readAt τ r n = withOpenings τ (λ x. τ .openings x + n * hit (τ .place r) x)
@@ -111,14 +107,14 @@ tallyOf S τ r (suc n) wants = readAt τ r n
 
 abbrev pub tallied : Settings → Tally → List Part → List Course → Tally
 tallied S τ [] fs = τ
-tallied S τ (ticks ∷ ps) fs = tallied S τ ps fs
+tallied S τ (ticks ∷ ps) fs = tallied S (nextEpoch τ) ps fs
 tallied S τ (reads r n ∷ ps) [] = τ
 tallied S τ (reads r n ∷ ps) (f ∷ fs) = tallied S (tallyOf S τ r n f) ps fs
 
 -- the epochs; τ₀: the tally at the start of the one that runs
 abbrev pub epochsOf : Settings → Tally → Tally → List Part → List Course → List Stretch
 epochsOf S τ₀ τ [] fs = record { first = τ₀; last = τ } ∷ []
-epochsOf S τ₀ τ (ticks ∷ ps) fs = record { first = τ₀; last = τ } ∷ epochsOf S τ τ ps fs
+epochsOf S τ₀ τ (ticks ∷ ps) fs = record { first = τ₀; last = nextEpoch τ } ∷ epochsOf S (nextEpoch τ) (nextEpoch τ) ps fs
 epochsOf S τ₀ τ (reads r n ∷ ps) [] = record { first = τ₀; last = τ } ∷ []
 epochsOf S τ₀ τ (reads r n ∷ ps) (f ∷ fs) = epochsOf S τ₀ (tallyOf S τ r n f) ps fs
 
@@ -179,7 +175,7 @@ module _ (S : Settings) where
 
   pub fed-all : (ps : List Part) (fs : List Course) (τ : Tally) → fed S τ (reportsOf ps fs) ≡ tallied S τ ps fs
   fed-all [] fs τ = refl
-  fed-all (ticks ∷ ps) fs τ = fed-all ps fs τ
+  fed-all (ticks ∷ ps) fs τ = fed-all ps fs (nextEpoch τ)
   fed-all (reads r n ∷ ps) [] τ = refl
   fed-all (reads r n ∷ ps) (f ∷ fs) τ =
       fed-append (answersOf r n f) (reportsOf ps fs) τ ∙ ap (λ (τ : Tally). fed S τ (reportsOf ps fs)) (fed-one r n f τ)
@@ -187,7 +183,7 @@ module _ (S : Settings) where
 
   pub epochs-all : (ps : List Part) (fs : List Course) (τ₀ τ : Tally) → epochs S τ₀ τ (reportsOf ps fs) ≡ epochsOf S τ₀ τ ps fs
   epochs-all [] fs τ₀ τ = refl
-  epochs-all (ticks ∷ ps) fs τ₀ τ = ap (λ (es : List Stretch). record { first = τ₀; last = τ } ∷ es) (epochs-all ps fs τ τ)
+  epochs-all (ticks ∷ ps) fs τ₀ τ = ap (λ (es : List Stretch). record { first = τ₀; last = nextEpoch τ } ∷ es) (epochs-all ps fs (nextEpoch τ) (nextEpoch τ))
   epochs-all (reads r n ∷ ps) [] τ₀ τ = refl
   epochs-all (reads r n ∷ ps) (f ∷ fs) τ₀ τ =
       epochs-calm (answersOf r n f) (reportsOf ps fs) τ₀ τ (calm r n f) ∙ ap (λ (τ : Tally). epochs S τ₀ τ (reportsOf ps fs)) (fed-one r n f τ)

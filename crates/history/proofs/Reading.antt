@@ -15,7 +15,7 @@ use Rattle.geometry.specs.Entry.{empty}
 use Rattle.geometry.proofs.Cases.{split, eq?}
 use Rattle.banks.specs.Banks.{bankOf}
 use Rattle.engine.specs.State.{State}
-use Rattle.engine.specs.Steps.{skippedOf}
+use Rattle.engine.specs.Round.{skippedOf}
 use Rattle.history.specs.Tally as tally
 use Rattle.history.specs.Run.{Call, tick, Step, step, run, eventOf, events, reportOf}
 use Rattle.history.specs.Tight.{readOf}

@@ -12,14 +12,14 @@ use Rattle.engine.specs.Ladder.{setUpNumber, inspectNumber}
 use Rattle.engine.specs.Calls as calls
 use Rattle.engine.proofs.Facts.{fit-all, tick-all, access-all, inspect-all}
 use Rattle.engine.proofs.Parts.{part-long, width-some}
-use Rattle.history.specs.Run.{Call, access, tick, inspect, rowOf, figureless, OneOf}
+use Rattle.history.specs.Run.{access, look, Call, rank, tick, askedOf, rowLooked, figureless, OneOf}
 use Rattle.history.specs.Demand1.{allowed, bufferOf, Demand1}
-use Rattle.history.proofs.Groups.{spanOff, ladder, step-number, refused-step}
+use Rattle.history.proofs.Groups.{ladder, step-number, refused-step}
 
 -- ---- the numbers
 
 ladder-allowed : (S : Settings) (σ : State) (c : Call) → OneOf (allowed c) (ladder S σ c)
-ladder-allowed S σ (access a) =
+ladder-allowed S σ (rank (access a)) =
     access-all (OneOf (0 ∷ 1 ∷ 2 ∷ 3 ∷ 4 ∷ 5 ∷ 6 ∷ 7 ∷ 8 ∷ 9 ∷ []))
     (inl refl)
     (inr (inl refl))
@@ -31,14 +31,14 @@ ladder-allowed S σ (access a) =
     (inr (inr (inr (inr (inr (inr (inr (inl refl))))))))
     (inr (inr (inr (inr (inr (inr (inr (inr (inl refl)))))))))
     (inr (inr (inr (inr (inr (inr (inr (inr (inr (inl refl))))))))))
-    S σ (rowOf a) (spanOff S a)
+    S σ (askedOf S a)
+ladder-allowed S σ (rank (look x)) =
+    inspect-all (OneOf (0 ∷ 1 ∷ 2 ∷ 3 ∷ 4 ∷ 5 ∷ 7 ∷ []))
+    (inl refl) (inr (inl refl)) (inr (inr (inl refl))) (inr (inr (inr (inl refl)))) (inr (inr (inr (inr (inl refl)))))
+    (inr (inr (inr (inr (inr (inl refl)))))) (inr (inr (inr (inr (inr (inr (inl refl))))))) S σ (rowLooked x)
 ladder-allowed S σ tick =
     tick-all (OneOf (0 ∷ 1 ∷ 2 ∷ 3 ∷ 4 ∷ []))
     (inl refl) (inr (inl refl)) (inr (inr (inl refl))) (inr (inr (inr (inl refl)))) (inr (inr (inr (inr (inl refl))))) S σ
-ladder-allowed S σ (inspect r) =
-    inspect-all (OneOf (0 ∷ 1 ∷ 2 ∷ 3 ∷ 4 ∷ 5 ∷ 7 ∷ []))
-    (inl refl) (inr (inl refl)) (inr (inr (inl refl))) (inr (inr (inr (inl refl)))) (inr (inr (inr (inr (inl refl)))))
-    (inr (inr (inr (inr (inr (inl refl)))))) (inr (inr (inr (inr (inr (inr (inl refl))))))) S σ r
 
 -- ---- set-up
 

@@ -101,7 +101,7 @@ module _ (S : Settings) (σ : State) (τ₀ τ : Tally) (I : Inv S σ τ₀ τ) 
 
   -- ---- the row moves to slot d
 
-  module _ (d : ℕ) (τ′ : Tally) (L : Relinked S σ r d (σ′ .forward) (σ′ .reverse)) (T : Tallied S σ τ τ′ r d)
+  module _ (d : ℕ) (τ′ : Tally) (L : Relinked S σ r d (σ′ .tables .forward) (σ′ .tables .reverse)) (T : Tallied S σ τ τ′ r d)
       (skip-is : (s : ℕ) → s < S .q → skips S σ r s ≡ wornSlot S σ′ s)
       (sl : Slide (skips S σ r) (S .q) (σ .control .head) (σ .control .passed) d (σ′ .control .head) (σ′ .control .passed)) where
     d-real : eqb d empty ≡ false

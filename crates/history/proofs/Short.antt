@@ -12,9 +12,10 @@ use borrow.Author.Tests.{eq-eqb, ne-eqb, le-leb}
 use Rattle.geometry.specs.declared.Settings.{Settings}
 use Rattle.geometry.specs.Entry.{empty}
 use Rattle.geometry.proofs.Cases.{lt?}
-use Rattle.engine.specs.Steps.{placeBy, skippedOf}
+use Rattle.geometry.specs.Place.{placeBy}
+use Rattle.engine.specs.Round.{skippedOf}
 use Rattle.engine.proofs.Skipping.{skip-all}
-use Rattle.history.specs.Tally.{Report, Tally, start}
+use Rattle.history.specs.Tally.{Report, Tally, start, nextEpoch}
 use Rattle.history.specs.Run.{Some}
 use Rattle.history.specs.Tight.{Part, reads, ticks, oneShort, eachRead, shortFilled, nineParts}
 use Rattle.history.proofs.Known.{Picture, plusAt, placeIn, afterTick, fresh}
@@ -165,12 +166,12 @@ module _ (b m : ℕ) (some : 1 ≤ b) (few : b ≤ 16) where
   -- the epoch that is onTick by the tick after j rows
   first-epoch : (j i : ℕ) (τ₀ τ : Tally)
       → epochsOf S τ₀ τ (eachRead (suc m) i j ++ ticks ∷ []) (eachGoes 0 i j ++ [])
-      ≡ (let τ′ : Tally = tallied S τ (eachRead (suc m) i j) (eachGoes 0 i j) in
+      ≡ (let τ′ : Tally = nextEpoch (tallied S τ (eachRead (suc m) i j) (eachGoes 0 i j)) in
       record { first = τ₀; last = τ′ } ∷ record { first = τ′; last = τ′ } ∷ [])
   first-epoch zero i τ₀ τ = refl
   first-epoch (suc j) i τ₀ τ = first-epoch j (suc i) τ₀ _
 
-  pub fill-epochs : (let τ : Tally = tallied S start (eachRead (suc m) 0 (2 * b)) (eachGoes 0 0 (2 * b)) in
+  pub fill-epochs : (let τ : Tally = nextEpoch (tallied S start (eachRead (suc m) 0 (2 * b)) (eachGoes 0 0 (2 * b))) in
       epochsOf S start start (shortFilled b (suc m)) fillCourses ≡ record { first = start; last = τ } ∷ record { first = τ; last = τ } ∷ [])
   fill-epochs = first-epoch (2 * b) 0 start start
 

@@ -3,7 +3,6 @@ use Prim.Native.Nat.{ℕ, suc, _+_, _*_, _≤_, _<_}
 use native.Mathlib.Omega.{arith}
 use mathlib.Core.Path.{_≡_, refl, sym, subst}
 use mathlib.Core.Logic.{inl, inr, _≢_}
-use mathlib.Core.List.{List}
 use borrow.Author.Tests.{eq-eqb, ne-eqb}
 use Rattle.geometry.specs.declared.Settings.{Settings}
 use Rattle.geometry.specs.Entry.{empty}
@@ -20,12 +19,13 @@ use Rattle.engine.proofs.Trackers.{TracksAt}
 use Rattle.engine.proofs.Counting.{quotients-after, total-after}
 use Rattle.engine.proofs.Moves.{tracks-access, slot-told}
 use Rattle.history.specs.Tally as tally
-use Rattle.history.specs.Run.{Call, access, rowOf, Event, step, eventOf}
-use Rattle.history.specs.Spent.{Progress, begun, progressAccess, progress, progressed, Spent, NotSpentEarly}
+use Rattle.history.specs.Run.{Call, rowOf, step, eventOf}
+use Rattle.history.specs.Chain.{OfChains, AnyCall}
+use Rattle.history.specs.Spent.{Progress, begun, progressAccess, progress, progressed, Spent, NotSpentEarlyHolds, NotSpentEarly}
 use Rattle.history.proofs.Groups.{ladder, at-9, step-cases}
 use Rattle.history.proofs.Invariant.{Inv}
 use Rattle.history.proofs.Access.{wanting-few}
-use Rattle.history.proofs.Chain.{Chain, chain-of, idle-progress}
+use Rattle.history.proofs.Chain.{lists, idle-progress}
 use Rattle.history.proofs.History.{set-up-new, inv-set-up, inv-chain, followed}
 
 -- what the answers said against the counts of all banks: the quarantines, and at least as many accesses as were counted
@@ -63,18 +63,18 @@ module _ (S : Settings) (σ : State) (τ₀ τ : tally.Tally) (I : Inv S σ τ�
       step-cases S σ (λ c s. Paced S (s .state) (progress p (eventOf c s)))
       (λ c n. rw (ne-eqb (ladder S σ c) 0 n) P)
       (λ a z.
-      let R = accepted S σ _ _ z .reached in
+      let R = accepted S σ _ z .reached in
       record {
         quarantines = quarantines-told (rowOf a) (R .row-in) (R .more);
         accesses = counts-few (rowOf a) (R .row-in) (R .more);
       })
+      (λ x z. P)
       (λ z. paced-new S σ)
-      (λ r z. P)
 
   spent : (c : Call) → (step S σ c) .answer .number ≡ 9 → Spent S p
   spent =
       at-9 S σ (λ c. Spent S p) (λ a e.
-      let W = wanting S σ _ _ e in
+      let W = wanting S σ _ e in
       let r : ℕ = rowOf a in
       let row-in = W .reached .row-in in
       let more = W .reached .more in
@@ -86,10 +86,8 @@ module _ (S : Settings) (σ : State) (τ₀ τ : tally.Tally) (I : Inv S σ τ�
             omega (arith, (rw next at (quotients-low (S .a) ((counted S σ r) .counts))), counts-few r row-in more);
       })
 
--- any call after a chain from set-up
-pub spent-late : (S : Settings) (blank : State) → (calls.setUp S blank) .number ≡ 0 → {σ : State} {es : List Event}
-    → Chain S ((calls.setUp S blank) .state) es σ → (c : Call) → (step S σ c) .answer .number ≡ 9 → Spent S (progressed begun es)
-spent-late S blank z {σ} {es} chain =
+pub spent-late : OfChains (AnyCall NotSpentEarlyHolds)
+spent-late S blank σ es z chain =
     let I = inv-set-up S blank z in
     let new : Paced S ((calls.setUp S blank) .state) begun =
     subst (λ (σ′ : State). Paced S σ′ begun) (set-up-new S blank z) (paced-new S (calls.cleared S blank)) in
@@ -98,4 +96,4 @@ spent-late S blank z {σ} {es} chain =
     (followed S progress progressed (λ p. refl) (λ p e es. refl) (λ e p. idle-progress p) (Paced S) (paced-step S) chain tally.start tally.start I begun new)
 
 pub not-spent-early : NotSpentEarly
-not-spent-early S blank cs c z = spent-late S blank z (chain-of S cs ((calls.setUp S blank) .state)) c
+not-spent-early = lists (AnyCall NotSpentEarlyHolds) spent-late

@@ -2,7 +2,7 @@
 use Prim.Native.Nat.{ℕ, zero, suc, _+_, _*_, _≤_, _<_}
 use native.Mathlib.Nat.{le-refl}
 use native.Mathlib.Omega.{arith}
-use mathlib.Core.Path.{_≡_, refl, subst}
+use mathlib.Core.Path.{refl, subst}
 use mathlib.Core.Logic.{inl, inr}
 use mathlib.Core.List.{List, [], _∷_, _++_, map}
 use lib.Dec.{eqb}
@@ -11,14 +11,15 @@ use Rattle.geometry.specs.Entry.{empty}
 use Rattle.geometry.proofs.Cases.{split}
 use Rattle.engine.specs.State.{State}
 use Rattle.engine.specs.Calls as calls
-use Rattle.history.specs.Tally.{Request, access, tick, inspect, Report, Tally, start, afterRequest, feed}
+use Rattle.history.specs.Tally.{Request, access, look, tick, Report, Tally, start, nextEpoch, afterRequest, feed}
 use Rattle.history.specs.Run.{Call, Event, step, eventOf, reportOf}
-use Rattle.history.specs.Window.{fed, ticksIn, EachWindow, Window}
+use Rattle.history.specs.Chain.{Chain, end, call, idle, OfChains}
+use Rattle.history.specs.Window.{fed, ticksIn, WindowHolds, Window}
 use Rattle.history.proofs.Openings.{home-bound, slot-bound}
-use Rattle.history.proofs.Charge.{charge, charge-most, occupied-is}
+use Rattle.history.proofs.Charge.{occupied, charge, charge-most, occupied-is}
 use Rattle.history.proofs.Invariant.{Inv}
 use Rattle.history.proofs.Calls.{carried}
-use Rattle.history.proofs.Chain.{Chain, end, call, idle, chain-of, idle-feed, idle-runs}
+use Rattle.history.proofs.Chain.{lists, idle-feed, idle-runs}
 use Rattle.history.proofs.History.{inv-set-up, followed}
 
 -- ---- the tally only grows
@@ -30,8 +31,8 @@ request-grows S τ (access r) slot row p =
       | inl k ↦ rw k (omega arith)
       | inr k ↦ rw k (elim (split (eqb row empty)) [ inl m ↦ rw m (omega arith) | inr m ↦ rw m (omega arith) ])
     ]
+request-grows S τ (look r) slot row p = le-refl (τ .openings p)
 request-grows S τ tick slot row p = le-refl (τ .openings p)
-request-grows S τ (inspect r) slot row p = le-refl (τ .openings p)
 
 feed-grows : (S : Settings) (τ : Tally) (e : Report) (p : ℕ) → τ .openings p ≤ (feed S τ e) .openings p
 feed-grows S τ e p =
@@ -77,6 +78,11 @@ module _ (S : Settings) where
         slots = λ s b. rw (occupied-is S σ (I .sound) τ (I .places) s b) (slot-bound (I .slots s b));
       }
 
+  -- the same with the tick that ends it
+  ended : {m : ℕ} {τ₀ τ : Tally} → Within m τ₀ τ → Within m τ₀ (nextEpoch τ)
+  unfolding occupied
+  ended v = record { homes = v .homes; slots = v .slots }
+
   -- one stretch after another
   joined : {m n : ℕ} {τ₀ τ₁ τ₂ : Tally} → Within m τ₀ τ₁ → Within n τ₁ τ₂ → Within (m + n) τ₀ τ₂
   joined v w =
@@ -101,19 +107,17 @@ module _ (S : Settings) where
   over (end {σ}) τ₀ τ I = in-epoch σ τ₀ τ I
   over (call {σ} c rest) τ₀ τ I =
       elim (carried S σ τ₀ τ I c) [
-        | inl v ↦ rw (v .0) (joined (in-epoch σ τ₀ _ (v .1)) (over rest _ _ (v .2)))
+        | inl v ↦ rw (v .0) (joined (rw (v .1) (ended (in-epoch σ τ₀ τ I))) (over rest _ _ (v .2)))
         | inr v ↦ rw (v .0) (over rest τ₀ _ (v .1))
       ]
   over (idle z rest) τ₀ τ I = rw (fed, idle-runs z, idle-feed S τ z) (over rest τ₀ τ I)
 
 -- ---- the theorem
 
--- of every chain from set-up
-pub each-window : (S : Settings) (σ : State) → (calls.setUp S σ) .number ≡ 0 → {σ′ : State} {es : List Event}
-    → Chain S ((calls.setUp S σ) .state) es σ′ → EachWindow S es
-each-window S σ z {σ′} chain before during after e few =
-    let begun : State = (calls.setUp S σ) .state in
-    let I = inv-set-up S σ z in
+pub each-window : OfChains WindowHolds
+each-window S blank σ′ es z chain before during after e few =
+    let begun : State = (calls.setUp S blank) .state in
+    let I = inv-set-up S blank z in
     let told : List Event → List Report = map reportOf in
     let first : Tally = fed S start (told before) in
     let history = cut S (before ++ during) after (subst (λ (xs : List Event). Chain S begun xs σ′) e chain) in
@@ -130,4 +134,4 @@ each-window S σ z {σ′} chain before during after e few =
     }
 
 pub window : Window
-window S σ cs z = each-window S σ z (chain-of S cs ((calls.setUp S σ) .state))
+window = lists WindowHolds each-window

@@ -8,7 +8,7 @@ use lib.ListN.{replicate, length-replicate}
 use Rattle.geometry.specs.declared.Settings.{Settings}
 use Rattle.conditions.specs.Conditions.{rangesHold}
 use Rattle.conditions.proofs.Facts.{limit-holds, lengths-hold}
-use Rattle.engine.specs.State.{State, lengthsOf, newControl}
+use Rattle.engine.specs.State.{State, stateOf, lengthsOf, newControl}
 use Rattle.engine.specs.Calls.{setUp, noted}
 use Rattle.engine.proofs.Facts.{fit-passes}
 use Rattle.history.specs.Tally.{Report, Tally, start, openingsIn, epochs}
@@ -25,14 +25,8 @@ module _ (S : Settings) (narrow : S .w ≡ 1) (ranges : rangesHold S ≡ true) (
   -- memory of the lengths that they ask for
   lent : State
   lent =
-      record {
-        store = replicate ((S .n + S .q) * S .w) 0;
-        forward = replicate (S .n) 0;
-        reverse = replicate (S .q) 0;
-        rows = replicate (S .b * S .k) 0;
-        counts = replicate (S .b * S .k) 0;
-        control = newControl;
-      }
+      stateOf (replicate ((S .n + S .q) * S .w) 0) (replicate (S .n) 0) (replicate (S .q) 0)
+      (replicate (S .b * S .k) 0) (replicate (S .b * S .k) 0) newControl
 
   accepted : (setUp S lent) .number ≡ 0
   unfolding setUp noted lent

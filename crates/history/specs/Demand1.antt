@@ -10,13 +10,13 @@ use Rattle.geometry.specs.declared.Settings.{Settings}
 use Rattle.engine.specs.State.{State}
 use Rattle.engine.specs.Ladder.{inspectNumber}
 use Rattle.engine.specs.Calls.{setUp, inspectPart}
-use Rattle.history.specs.Run.{Access, read, write, Call, access, tick, inspect, figureless, step, OneOf}
+use Rattle.history.specs.Run.{Access, read, write, access, look, Call, rank, tick, figureless, step, OneOf}
 
 -- the column 'calls' of 'Where each call can stop', and 0 for the service: the numbers that a call may answer
 abbrev pub allowed : Call → List ℕ
-allowed (access a) = 0 ∷ 1 ∷ 2 ∷ 3 ∷ 4 ∷ 5 ∷ 6 ∷ 7 ∷ 8 ∷ 9 ∷ []
+allowed (rank (access a)) = 0 ∷ 1 ∷ 2 ∷ 3 ∷ 4 ∷ 5 ∷ 6 ∷ 7 ∷ 8 ∷ 9 ∷ []
+allowed (rank (look x)) = 0 ∷ 1 ∷ 2 ∷ 3 ∷ 4 ∷ 5 ∷ 7 ∷ []
 allowed tick = 0 ∷ 1 ∷ 2 ∷ 3 ∷ 4 ∷ []
-allowed (inspect r) = 0 ∷ 1 ∷ 2 ∷ 3 ∷ 4 ∷ 5 ∷ 7 ∷ []
 
 -- the read buffer that an access is lent; a write is lent none
 abbrev pub lentBuffer : Access → List ℕ
@@ -25,9 +25,9 @@ lentBuffer (write r column bytes) = []
 
 -- the read buffer that a call is lent
 abbrev pub bufferOf : Call → List ℕ
-bufferOf (access a) = lentBuffer a
+bufferOf (rank (access a)) = lentBuffer a
+bufferOf (rank (look x)) = []
 bufferOf tick = []
-bufferOf (inspect r) = []
 
 pub record Demand1 : Type 0 where
   -- set-up's numbers, and that a set-up that is refused changes nothing

@@ -1,25 +1,29 @@
 -- Demand 2 over every list of calls after set-up. The proofs stand in proofs/.
 -- Assumes nothing.
-use Prim.Native.Nat.{ℕ, _+_, _-_, _*_, _<_, _≤_}
+use Prim.Native.Nat.{ℕ, _+_, _-_, _*_, _<_}
 use mathlib.Core.Path.{_≡_}
-use mathlib.Core.Bool.{cond, _&&_}
+use mathlib.Core.Bool.{false, cond, _&&_}
 use mathlib.Core.List.{List, [], _∷_}
 use lib.Dec.{ltb, leb, eqb}
 use lib.ListN.{length, getD}
 use Rattle.geometry.specs.declared.Settings.{Settings}
 use Rattle.geometry.specs.Numbering.{homeRow}
 use Rattle.engine.specs.State.{State}
-use Rattle.engine.specs.Calls.{setUp, inspectPart}
-use Rattle.engine.specs.Tables.{Inverse}
-use Rattle.history.specs.Run.{Access, read, write, Call, access, tick, inspect, rowOf}
-use Rattle.history.specs.Run.{Answer, Event, step, run, events, OfAccepted, Each, OneOf}
+use Rattle.engine.specs.Calls.{inspectPart}
+use Rattle.engine.specs.Inverse.{Inverse}
+use Rattle.history.specs.Run.{Access, read, write, access, look, Call, rank, tick, rowOf, spanOff}
+use Rattle.history.specs.Run.{Answer, Event, step, OfAccepted, Each, OneOf}
+use Rattle.history.specs.Chain.{Claim, OfLists, CallClaim}
 
 -- ---- 'forward and reverse tables are inverse'
 
+-- of the memory σ that the events leave
+abbrev pub InverseHolds : Claim
+InverseHolds S blank es σ = Inverse S σ
+
 -- after every list of calls
 abbrev pub TablesInverse : Type 0
-TablesInverse = (S : Settings) (σ : State) (cs : List Call) → (setUp S σ) .number ≡ 0
-    → Inverse S (run S ((setUp S σ) .state) cs)
+TablesInverse = OfLists InverseHolds
 
 -- ---- 'every byte read is the byte last written there, or the one that stood there at set-up'
 
@@ -43,9 +47,9 @@ withAccess mem (write r column bytes) = overwritten mem r column bytes
 
 -- after any accepted call: nothing else changes it
 abbrev pub withCall : Memory → Call → Memory
-withCall mem (access a) = withAccess mem a
+withCall mem (rank (access a)) = withAccess mem a
+withCall mem (rank (look x)) = mem
 withCall mem tick = mem
-withCall mem (inspect r) = mem
 
 abbrev pub remember : Memory → Event → Memory
 remember mem e = cond (eqb (e .answer .number) 0) (withCall mem (e .call)) mem
@@ -75,32 +79,32 @@ abbrev pub PartsHold : Settings → Memory → State → Type 0
 PartsHold S mem σ = (r : ℕ) → r < S .n → IsRow S mem r (inspectPart S σ r)
 
 -- each read of a list, and what inspect gives after the list
+abbrev pub BytesHold : Claim
+BytesHold S blank es σ =
+    RowsReturned S (standing S blank) es × PartsHold S (remembered (standing S blank) es) σ
+
 abbrev pub BytesKept : Type 0
-BytesKept = (S : Settings) (σ : State) (cs : List Call) → (setUp S σ) .number ≡ 0
-    → RowsReturned S (standing S σ) (events S ((setUp S σ) .state) cs)
-    × PartsHold S (remembered (standing S σ) (events S ((setUp S σ) .state) cs)) (run S ((setUp S σ) .state) cs)
+BytesKept = OfLists BytesHold
 
 -- ---- after an accepted set-up only 5, 6, 8 and 9 are ever answered
 
 abbrev pub Usual : Event → Type 0
 Usual e = OneOf (0 ∷ 5 ∷ 6 ∷ 8 ∷ 9 ∷ []) (e .answer .number)
 
+-- of any call; an event that is idle may answer 3
+abbrev pub UsualHolds : CallClaim
+UsualHolds S es e σ = Usual e
+
 abbrev pub OnlyUsual : Type 0
-OnlyUsual = (S : Settings) (σ : State) (cs : List Call) → (setUp S σ) .number ≡ 0
-    → Each Usual (events S ((setUp S σ) .state) cs)
+OnlyUsual = OfLists (λ S blank es σ. Each Usual es)
 
 -- ---- 'An access refused with 9 is accepted, given sound tables, if it is the first call after a tick.'
 
--- the span of a read or a write is good
-abbrev pub GoodSpan : Settings → Access → Type 0
-GoodSpan S (read r buffer) = length buffer ≡ S .w
-GoodSpan S (write r column bytes) = column + length bytes ≤ S .w
-
--- a read or a write whose row and span are good
+-- a read or a write whose row and span are good: neither 5, 'row ≥ N', nor 6 applies
 abbrev pub GoodAccess : Settings → Call → Type 0
-GoodAccess S (access a) = (rowOf a < S .n) × GoodSpan S a
+GoodAccess S (rank (access a)) = (rowOf a < S .n) × (spanOff S a ≡ false)
+GoodAccess S (rank (look x)) = ⊥
 GoodAccess S tick = ⊥
-GoodAccess S (inspect r) = ⊥
 
 -- an access that is refused with 9 has a good row and a good span
 abbrev pub NineIsGood : Type 0

@@ -6,10 +6,9 @@ use mathlib.Core.Path.{_≡_}
 use mathlib.Core.List.{List, [], _∷_, map}
 use Rattle.geometry.specs.declared.Settings.{Settings}
 use Rattle.geometry.specs.Numbering.{homeRow, slotRow}
-use Rattle.engine.specs.State.{State}
-use Rattle.engine.specs.Calls.{setUp}
 use Rattle.history.specs.Tally.{Tally, start, feed, Stretch, openingsIn, quarantinesIn, epochs}
-use Rattle.history.specs.Run.{Access, Call, rowOf, Answer, Event, events, OfAccepted, reportOf, Each}
+use Rattle.history.specs.Run.{Access, rowOf, Answer, Event, OfAccepted, reportOf, Each}
+use Rattle.history.specs.Chain.{Claim, OfLists}
 
 -- what holds of an epoch
 pub record Bounded (S : Settings) (e : Stretch) : Type 0 where
@@ -40,7 +39,10 @@ pub record Kept (S : Settings) (es : List Event) : Type 0 where
   pub enough : 2 * (S .b * (S .l / S .a)) ≤ S .q → Each NoSlotWanting es
   pub places : PlacesAnswered S start es
 
+-- demand 3, as a claim of the events es
+abbrev pub Demand3Holds : Claim
+Demand3Holds S blank es σ = Kept S es
+
 -- For all settings, all lent memory and all lists of calls: if set-up is accepted, then demand 3 holds of the list.
 abbrev pub Demand3 : Type 0
-Demand3 = (S : Settings) (σ : State) (cs : List Call) → (setUp S σ) .number ≡ 0
-    → Kept S (events S ((setUp S σ) .state) cs)
+Demand3 = OfLists Demand3Holds

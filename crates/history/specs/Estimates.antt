@@ -10,10 +10,10 @@ use lib.Dec.{eqb}
 use Rattle.geometry.specs.declared.Settings.{Settings}
 use Rattle.geometry.specs.Entry.{empty}
 use Rattle.engine.specs.State.{State, trackerAt}
-use Rattle.engine.specs.Calls.{setUp}
 use Rattle.history.specs.Tally.{opened}
-use Rattle.history.specs.Run.{Access, Call, access, tick, inspect}
-use Rattle.history.specs.Run.{Answer, Event, step, run, eventOf, events, OfAccepted}
+use Rattle.history.specs.Run.{Access, access, look, Call, rank, tick}
+use Rattle.history.specs.Run.{Answer, Event, OfAccepted}
+use Rattle.history.specs.Chain.{OfLists, CallClaim, AnyCall}
 
 -- what the answers of the running epoch say of each place (physical row)
 pub record Observed : Type 0 where
@@ -40,9 +40,9 @@ observeAccess o p estimate =
 
 -- after an accepted call
 abbrev pub observeCall : Observed → Call → Answer → Observed
-observeCall o (access a) answer = observeAccess o (answer .place) (answer .estimate)
+observeCall o (rank (access a)) answer = observeAccess o (answer .place) (answer .estimate)
+observeCall o (rank (look x)) answer = o
 observeCall o tick answer = unobserved
-observeCall o (inspect r) answer = o
 
 abbrev pub observe : Observed → Event → Observed
 observe o e = cond (eqb (e .answer .number) 0) (observeCall o (e .call) (e .answer)) o
@@ -78,10 +78,11 @@ Concludes S o σ a answer =
     let p : ℕ = answer .place in
     Conclusions S (suc (o .accesses p)) (o .latest p) (o .since p) ((trackerAt S σ p) .spill) answer
 
+-- what is claimed of the event e after the events es; σ: the memory after it
+abbrev pub EstimatesHold : CallClaim
+EstimatesHold S es e σ = OfAccepted (Concludes S (observed unobserved es) σ) e
+
 -- For all settings, all lent memory, all lists of calls after an accepted set-up, and any call after the list: if it is
 -- an accepted access, these conclusions hold of its answer.
 abbrev pub Estimates : Type 0
-Estimates = (S : Settings) (blank : State) (cs : List Call) (c : Call) → (setUp S blank) .number ≡ 0 →
-    let σ : State = (setUp S blank) .state in
-    let last = step S (run S σ cs) c in
-    OfAccepted (Concludes S (observed unobserved (events S σ cs)) (last .state)) (eventOf c last)
+Estimates = OfLists (AnyCall EstimatesHold)

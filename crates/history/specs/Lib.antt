@@ -1,5 +1,6 @@
 pub mod Tally
 pub mod Run
+pub mod Chain
 pub mod Demand1
 pub mod Demand2
 pub mod Demand3

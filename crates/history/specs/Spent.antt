@@ -9,9 +9,8 @@ use mathlib.Core.List.{List, [], _∷_}
 use lib.Dec.{eqb}
 use Rattle.geometry.specs.declared.Settings.{Settings}
 use Rattle.geometry.specs.Entry.{empty}
-use Rattle.engine.specs.State.{State}
-use Rattle.engine.specs.Calls.{setUp}
-use Rattle.history.specs.Run.{Call, access, tick, inspect, Answer, Event, step, run, events}
+use Rattle.history.specs.Run.{access, look, Call, rank, tick, Answer, Event}
+use Rattle.history.specs.Chain.{OfLists, CallClaim, AnyCall}
 
 -- what the answers of the running epoch say of it
 pub record Progress : Type 0 where
@@ -34,9 +33,9 @@ progressAccess p slot =
 
 -- after an accepted call
 abbrev pub progressCall : Progress → Call → Answer → Progress
-progressCall p (access a) answer = progressAccess p (answer .slot)
+progressCall p (rank (access a)) answer = progressAccess p (answer .slot)
+progressCall p (rank (look x)) answer = p
 progressCall p tick answer = begun
-progressCall p (inspect r) answer = p
 
 abbrev pub progress : Progress → Event → Progress
 progress p e = cond (eqb (e .answer .number) 0) (progressCall p (e .call) (e .answer)) p
@@ -53,9 +52,11 @@ pub record Spent (S : Settings) (p : Progress) : Type 0 where
   -- each quarantine, the refused one included, takes A accesses, of which the refused one is the last
   pub accesses : suc (p .quarantines) * S .a ≤ suc (p .accesses)
 
+-- what is claimed of the event e after the events es
+abbrev pub NotSpentEarlyHolds : CallClaim
+NotSpentEarlyHolds S es e σ = e .answer .number ≡ 9 → Spent S (progressed begun es)
+
 -- For all settings, all lent memory, all lists of calls after an accepted set-up, and any call after the list: if it gets 9, the
 -- epoch is that far.
 abbrev pub NotSpentEarly : Type 0
-NotSpentEarly = (S : Settings) (blank : State) (cs : List Call) (c : Call) → (setUp S blank) .number ≡ 0 →
-    let σ : State = (setUp S blank) .state in
-    (step S (run S σ cs) c) .answer .number ≡ 9 → Spent S (progressed begun (events S σ cs))
+NotSpentEarly = OfLists (AnyCall NotSpentEarlyHolds)

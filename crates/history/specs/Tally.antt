@@ -13,9 +13,9 @@ use Rattle.geometry.specs.Entry.{empty}
 pub data Request : Type 0 where
   -- a read or a write
   access : ℕ → Request
+  -- a call that only looks at the row
+  look : ℕ → Request
   tick : Request
-  -- either of inspect's calls
-  inspect : ℕ → Request
 
 -- 'It is fed each call .., and, from the answer, the number, the slot moved to and the row sent home'
 pub record Report : Type 0 where
@@ -32,9 +32,17 @@ pub record Tally : Type 0 where
   pub openings : ℕ → ℕ
   pub quarantines : ℕ
 
+-- the rows have these places, and each count is 0
+abbrev pub startAt : (ℕ → ℕ) → Tally
+startAt place = record { place = place; openings = λ p. 0; quarantines = 0 }
+
 -- 'At set-up each place is the row's home and each count is 0.'
 abbrev pub start : Tally
-start = record { place = λ r. homeRow r; openings = λ p. 0; quarantines = 0 }
+start = startAt homeRow
+
+-- with other openings
+abbrev pub withOpenings : Tally → (ℕ → ℕ) → Tally
+withOpenings τ openings = record { place = τ .place; openings = openings; quarantines = τ .quarantines }
 
 -- how often x stands in a list
 unfoldable pub hit : ℕ → ℕ → ℕ
@@ -56,7 +64,7 @@ placed r p place = λ x. cond (eqb x r) p (place x)
 abbrev pub afterStay : Settings → Tally → ℕ → Tally
 afterStay S τ r =
     let p : ℕ = τ .place r in
-    record { place = τ .place; openings = opened (p ∷ []) (τ .openings); quarantines = τ .quarantines }
+    withOpenings τ (opened (p ∷ []) (τ .openings))
 
 -- 'If a slot s moved to is answered, that is one quarantine: p and N + s are opened once each for the copy, and r's place
 -- becomes N + s.'
@@ -84,12 +92,15 @@ abbrev pub afterAccess : Settings → Tally → ℕ → ℕ → ℕ → Tally
 afterAccess S τ r slot row =
     cond (eqb slot empty) (afterStay S τ r) (cond (eqb row empty) (afterMove S τ r slot) (afterMoveOver S τ r slot row))
 
--- an accepted call. 'Accepted tick: it .. opens nothing and moves no place.' 'Inspect, by either of its calls, ..:
--- nothing.'
+-- 'Accepted tick: it .. opens nothing and moves no place.'
+abbrev pub nextEpoch : Tally → Tally
+nextEpoch τ = τ
+
+-- an accepted call. 'Inspect, by either of its calls, ..: nothing.'
 abbrev pub afterRequest : Settings → Tally → Request → ℕ → ℕ → Tally
 afterRequest S τ (access r) slot row = afterAccess S τ r slot row
-afterRequest S τ tick slot row = τ
-afterRequest S τ (inspect r) slot row = τ
+afterRequest S τ (look r) slot row = τ
+afterRequest S τ tick slot row = nextEpoch τ
 
 -- '.. and any refused call: nothing.'
 abbrev pub feed : Settings → Tally → Report → Tally
@@ -99,8 +110,8 @@ feed S τ e = cond (eqb (e .number) 0) (afterRequest S τ (e .request) (e .slot)
 
 abbrev pub isTick : Request → Bool
 isTick (access r) = false
+isTick (look r) = false
 isTick tick = true
-isTick (inspect r) = false
 
 -- 'Accepted tick: it ends the epoch'
 abbrev pub endsEpoch : Report → Bool

@@ -13,7 +13,7 @@ use Rattle.banks.specs.Banks.{mostBanks}
 use Rattle.engine.specs.State.{State}
 use Rattle.engine.specs.Calls.{setUp}
 use Rattle.history.specs.Tally.{start, Stretch, openingsIn, quarantinesIn, epochs}
-use Rattle.history.specs.Run.{Call, access, read, tick, Event, events, reportOf, Some}
+use Rattle.history.specs.Run.{read, access, Call, rank, tick, Event, events, reportOf, Some}
 use Rattle.history.specs.Window.{ticksIn, stretchOf}
 
 -- ---- lists, told in parts
@@ -26,7 +26,7 @@ pub data Part : Type 0 where
 
 -- a row has one byte in the settings below, and so has a read's buffer
 abbrev pub readOf : ℕ → Call
-readOf r = access (read r (0 ∷ []))
+readOf r = rank (access (read r (0 ∷ [])))
 
 abbrev pub callsOf : List Part → List Call
 callsOf [] = []

@@ -8,10 +8,9 @@ use mathlib.Core.Bool.{cond}
 use mathlib.Core.List.{List, [], _∷_, _++_, map}
 use Rattle.geometry.specs.declared.Settings.{Settings}
 use Rattle.geometry.specs.Numbering.{homeRow, slotRow}
-use Rattle.engine.specs.State.{State}
-use Rattle.engine.specs.Calls.{setUp}
 use Rattle.history.specs.Tally.{Report, Tally, start, feed, endsEpoch, Stretch, openingsIn}
-use Rattle.history.specs.Run.{Call, Event, events, reportOf}
+use Rattle.history.specs.Run.{Event, reportOf}
+use Rattle.history.specs.Chain.{Claim, OfLists}
 
 -- the tally after a list of reports
 abbrev pub fed : Settings → Tally → List Report → Tally
@@ -43,7 +42,10 @@ EachWindow S es = (before during after : List Event) → es ≡ before ++ during
     → ticksIn (map reportOf during) ≤ 1
     → Windowed S (stretchOf S (map reportOf before) (map reportOf during))
 
+-- this, as a claim of the events es
+abbrev pub WindowHolds : Claim
+WindowHolds S blank es σ = EachWindow S es
+
 -- For all settings, all lent memory and all lists of calls: if set-up is accepted, then this holds of the list.
 abbrev pub Window : Type 0
-Window = (S : Settings) (σ : State) (cs : List Call) → (setUp S σ) .number ≡ 0
-    → EachWindow S (events S ((setUp S σ) .state) cs)
+Window = OfLists WindowHolds

@@ -1,24 +1,28 @@
--- The first four rows of the table in the two stages in which the code passes them: the first bank, then the others.
+-- The fourth row of the table in the two parts in which the code judges it: the first bank, then the others.
 -- Assumes nothing.
-use Prim.Native.Nat.{ℕ, suc, _-_}
+use Prim.Native.Nat.{ℕ, suc, _-_, _≤_}
+use mathlib.Core.Path.{_≡_}
 use mathlib.Core.Bool.{Bool, _||_}
 use mathlib.Core.List.{List}
-use lib.ListN.{take}
+use lib.ListN.{length, take}
 use Rattle.geometry.specs.declared.Settings.{Settings}
 use Rattle.geometry.specs.declared.Ring.{Ring}
-use Rattle.geometry.specs.declared.Lengths.{Lengths}
-use Rattle.banks.specs.Banks.{someBank}
-use Rattle.engine.specs.Ladder.{stops, _▹_, fitNumber, ringUnsound, trackerUnsound, bankUnsound}
+use Rattle.geometry.specs.Ranges.{someBelow}
+use Rattle.engine.specs.Ladder.{ringUnsound, trackerUnsound, bankUnsound}
 
-abbrev pub lengthsBy : ℕ → ℕ → ℕ → ℕ → ℕ → Lengths
-lengthsBy store forward reverse rows counts =
-    record { store = store; forward = forward; reverse = reverse; rows = rows; counts = counts }
-
--- 1, 2, 3, and 4 for `head`, `passed` and the first bank (spill, acts: its numbers)
-unfoldable pub firstBankNumber : Settings → Lengths → Ring → ℕ → ℕ → List ℕ → ℕ
-firstBankNumber S lent ring spill acts counts =
-    fitNumber S lent ▹ stops (ringUnsound S ring || trackerUnsound S spill acts (take (S .k) counts)) 4
+-- 4 applies because of `head`, `passed` or the first bank (spill, acts: its numbers)
+unfoldable pub firstUnsound : Settings → Ring → ℕ → ℕ → List ℕ → Bool
+firstUnsound S ring spill acts counts = ringUnsound S ring || trackerUnsound S spill acts (take (S .k) counts)
 
 -- 4 applies because of a bank from the second on (spill, acts: by bank)
 unfoldable pub othersUnsound : Settings → List ℕ → List ℕ → List ℕ → Bool
-othersUnsound S spill acts counts = someBank (λ c. bankUnsound S spill acts counts (suc c)) (S .b - 1)
+othersUnsound S spill acts counts = someBelow (λ c. bankUnsound S spill acts counts (suc c)) (S .b - 1)
+
+-- ---- what the code asks once 1 to 3 let pass
+
+-- of the tables
+pub record Tabled (S : Settings) (forward reverse : List ℕ) : Type 0 where
+  pub rows-few : S .n ≤ 60000
+  pub slots-few : S .q ≤ 5500
+  pub forward-long : length forward ≡ S .n
+  pub reverse-long : length reverse ≡ S .q

@@ -14,15 +14,17 @@ use Rattle.walk.proofs.Form.{Record}
 use Rattle.walk.proofs.Stores.{plain, indexed}
 use Rattle.walk.proofs.Arrays.{set-val, set-is}
 use Rattle.walk.proofs.Mutable.{Answer}
-use Rattle.banks.specs.Banks.{mostBanks, withNumbers}
+use Rattle.banks.specs.Banks.{mostBanks, withBank}
+use Rattle.banks.proofs.Bank
+use Rattle.banks.proofs.Bank.Laws as Bank′
 use Rattle.geometry.proofs.Control
 use Rattle.geometry.proofs.Control.Laws as Control′
 use Rattle.geometry.proofs.Ring
 use Rattle.geometry.proofs.Ring.Laws as Ring′
 use Rattle.geometry.proofs.Settings
 use Rattle.geometry.proofs.Settings.Laws as Settings′
-use Rattle.upkeep.proofs.Numbered
-use Rattle.upkeep.proofs.Numbered.Laws as Numbered′
+use Rattle.epoch.proofs.Numbered
+use Rattle.epoch.proofs.Numbered.Laws as Numbered′
 use Rattle.figures.proofs.Outcome
 use Rattle.figures.proofs.Outcome.Laws as Outcome′
 use Rattle.access.proofs.Answered
@@ -65,16 +67,16 @@ answered = record {
   R = Outcome.the-row;
   spelled = struct Outcome.the-type Outcome′.the-laws;
   makes = λ 𝓤 H A W. LL.makes Outcome.the-type Outcome′.the-plain 𝓤 H A;
-  to = λ h d. withNumbers h (d .ring) (d .bank) (d .spill) (d .acts);
+  to = λ h d. withBank h (d .ring) (d .bank);
   gives = λ d. d .outcome;
   stores = plain (0 ∷ []) (1 ∷ 0 ∷ []) ∷ plain (1 ∷ []) (1 ∷ 1 ∷ [])
-      ∷ indexed (2 ∷ []) mostBanks (2 ∷ []) (3 ∷ []) ∷ indexed (3 ∷ []) mostBanks (2 ∷ []) (4 ∷ []) ∷ [];
+      ∷ indexed (2 ∷ []) mostBanks (2 ∷ 0 ∷ []) (2 ∷ 1 ∷ []) ∷ indexed (3 ∷ []) mostBanks (2 ∷ 0 ∷ []) (2 ∷ 2 ∷ []) ∷ [];
   from = 0 ∷ [];
   alike = (refl, (refl, (refl, (refl, tt))));
   to-val = λ h d i.
       let ring : Vals → Vals = λ vs. vcons (vint w32 (d .ring .head)) (vcons (vint w32 (d .ring .passed)) vs) in
-      let spill : Vals = set-val u32-field LL.u32-laws (h .spill) (d .bank) (d .spill) i in
-      let acts : Vals = set-val u32-field LL.u32-laws (h .acts) (d .bank) (d .acts) i in
+      let spill : Vals = set-val u32-field LL.u32-laws (h .spill) (d .bank .index) (d .bank .spill) i in
+      let acts : Vals = set-val u32-field LL.u32-laws (h .acts) (d .bank .index) (d .bank .acts) i in
       vstruct (ring (vcons (vstruct spill) (vcons (vstruct acts) vnil)));
   gives-val = λ d. refl;
   to-is = λ h d was is.
@@ -82,11 +84,13 @@ answered = record {
       let new = LL.owed Answered.the-type Answered′.the-laws d (LL.vals Answered.the-type Answered′.the-laws d) is in
       let ring =
       LL.owed Ring.the-type Ring′.the-laws (d .ring) (LL.vals Ring.the-type Ring′.the-laws (d .ring)) (new .1 .0) in
+      let bank =
+      LL.owed Bank.the-type Bank′.the-laws (d .bank) (LL.vals Bank.the-type Bank′.the-laws (d .bank)) (new .1 .1 .0) in
       let spill =
-      set-is u32-field LL.u32-laws mostBanks (h .spill) (d .bank) (d .spill) (old .1 .1 .0) (new .1 .1 .1 .0) in
+      set-is u32-field LL.u32-laws mostBanks (h .spill) (d .bank .index) (d .bank .spill) (old .1 .1 .0) (bank .1 .0) in
       let acts =
-      set-is u32-field LL.u32-laws mostBanks (h .acts) (d .bank) (d .acts) (old .1 .1 .1 .0) (new .1 .1 .1 .1 .0) in
-      LL.owes Control.the-type Control′.the-laws (withNumbers h (d .ring) (d .bank) (d .spill) (d .acts))
+      set-is u32-field LL.u32-laws mostBanks (h .acts) (d .bank .index) (d .bank .acts) (old .1 .1 .1 .0) (bank .1 .1 .0) in
+      LL.owes Control.the-type Control′.the-laws (withBank h (d .ring) (d .bank))
       (ring .0, (ring .1 .0, (spill, (acts, tt))));
   gives-is = λ d vs is. LL.owed Answered.the-type Answered′.the-laws d vs is .0;
 }

@@ -1,13 +1,13 @@
 // The face of the engine: thin entry functions over a control record that the caller lends, exported to C (see
 // include/aqua.h). They answer for any settings, arguments and lent memory; a refusal leaves everything as it was.
 // What each promises is one definition of crate `figures` (specs/Promises.antt); the theorem about them (crate `served`)
-// supposes these and nothing else. Rattle code may hold the record by value and call `read_core` and `write_core`, and the
-// crates `upkeep` and `look`, instead.
+// supposes these and nothing else. Rattle code may hold the record by value and call the crates `epoch`, `look` and
+// `access` instead.
 ghost use mathlib.Core.Path.{_≡_};
 ghost use Rattle.sizing.specs.declared.SizeTimes.{SizeTimes as SizeTimes-of};
 ghost use Rattle.sizing.specs.declared.RefreshTimes.{RefreshTimes as RefreshTimes-of};
 ghost use Rattle.sizing.specs.Sums.{leastSize, mostActivations};
-ghost use Rattle.engine.specs.State.{stateOf};
+ghost use Rattle.engine.specs.State.{entering, leaving};
 ghost use Rattle.engine.specs.Calls.{inspectPart};
 ghost use Rattle.figures.specs.Promises.{SetUpPromise, ReadPromise, WritePromise, TickPromise};
 ghost use Rattle.figures.specs.Promises.{InspectNumberPromise, InspectSpanPromise};
@@ -19,90 +19,6 @@ use geometry::Control;
 use geometry::Settings;
 use sizing::RefreshTimes;
 use sizing::SizeTimes;
-
-// An outcome, and the control record after the access.
-pub struct Reported {
-    pub outcome: Outcome,
-    pub control: Control,
-}
-
-// Reads a row, with the control record by value.
-pub fn read_core(
-    control: Control,
-    s: Settings,
-    row: u32,
-    buffer: &mut [u8],
-    store: &mut [u8],
-    forward: &mut [u16],
-    reverse: &mut [u16],
-    rows: &mut [u16],
-    counts: &mut [u32],
-) -> Reported
-    ensures { λ r.
-        let before = stateOf (now (store .entry)) (now (forward .entry)) (now (reverse .entry))
-        (now (rows .entry)) (now (counts .entry)) control in
-        let after = stateOf (now (store .exit)) (now (forward .exit)) (now (reverse .exit))
-        (now (rows .exit)) (now (counts .exit)) (r .control) in
-        ⌜ ReadPromise s before row (now (buffer .entry)) after (r .outcome) (now (buffer .exit)) ⌝ }
-{
-    let t = access::read(
-        control,
-        s,
-        row,
-        buffer,
-        store,
-        forward,
-        reverse,
-        rows,
-        counts,
-    );
-    let outcome = t.outcome;
-    let ring = t.ring;
-    Reported {
-        outcome: outcome,
-        control: banks::with_numbers(control, ring, t.bank, t.spill, t.acts),
-    }
-}
-
-// Writes into a row, with the control record by value.
-pub fn write_core(
-    control: Control,
-    s: Settings,
-    row: u32,
-    column: usize,
-    bytes: &[u8],
-    store: &mut [u8],
-    forward: &mut [u16],
-    reverse: &mut [u16],
-    rows: &mut [u16],
-    counts: &mut [u32],
-) -> Reported
-    ensures { λ r.
-        let before = stateOf (now (store .entry)) (now (forward .entry)) (now (reverse .entry))
-        (now (rows .entry)) (now (counts .entry)) control in
-        let after = stateOf (now (store .exit)) (now (forward .exit)) (now (reverse .exit))
-        (now (rows .exit)) (now (counts .exit)) (r .control) in
-        ⌜ WritePromise s before row column (now (bytes .entry)) after (r .outcome) ⌝ }
-{
-    let t = access::write(
-        control,
-        s,
-        row,
-        column,
-        bytes,
-        store,
-        forward,
-        reverse,
-        rows,
-        counts,
-    );
-    let outcome = t.outcome;
-    let ring = t.ring;
-    Reported {
-        outcome: outcome,
-        control: banks::with_numbers(control, ring, t.bank, t.spill, t.acts),
-    }
-}
 
 // Begins a new history, and returns the number.
 #[no_mangle]
@@ -116,13 +32,11 @@ pub extern "C" fn aqua_set_up(
     counts: &mut [u32],
 ) -> u32
     ensures { λ r.
-        let before = stateOf (now (store .entry)) (now (forward .entry)) (now (reverse .entry))
-        (now (rows .entry)) (now (counts .entry)) (now (control .entry)) in
-        let after = stateOf (now (store .entry)) (now (forward .exit)) (now (reverse .exit))
-        (now (rows .exit)) (now (counts .exit)) (now (control .exit)) in
+        let before = entering store forward reverse rows counts (now (control .entry)) in
+        let after = leaving store forward reverse rows counts (now (control .exit)) in
         ⌜ SetUpPromise s before after r ⌝ }
 {
-    let t = upkeep::set_up(*control, s, store, forward, reverse, rows, counts);
+    let t = epoch::set_up(*control, s, store, forward, reverse, rows, counts);
     *control = t.control;
     t.number
 }
@@ -142,10 +56,8 @@ pub extern "C" fn aqua_read(
     counts: &mut [u32],
 ) -> Outcome
     ensures { λ r.
-        let before = stateOf (now (store .entry)) (now (forward .entry)) (now (reverse .entry))
-        (now (rows .entry)) (now (counts .entry)) (now (control .entry)) in
-        let after = stateOf (now (store .exit)) (now (forward .exit)) (now (reverse .exit))
-        (now (rows .exit)) (now (counts .exit)) (now (control .exit)) in
+        let before = entering store forward reverse rows counts (now (control .entry)) in
+        let after = leaving store forward reverse rows counts (now (control .exit)) in
         ⌜ ReadPromise s before row (now (buffer .entry)) after r (now (buffer .exit)) ⌝ }
 {
     let t = access::read(
@@ -161,8 +73,8 @@ pub extern "C" fn aqua_read(
     );
     control.head = t.ring.head;
     control.passed = t.ring.passed;
-    control.spill[t.bank] = t.spill;
-    control.acts[t.bank] = t.acts;
+    control.spill[t.bank.index] = t.bank.spill;
+    control.acts[t.bank.index] = t.bank.acts;
     t.outcome
 }
 
@@ -181,10 +93,8 @@ pub extern "C" fn aqua_write(
     counts: &mut [u32],
 ) -> Outcome
     ensures { λ r.
-        let before = stateOf (now (store .entry)) (now (forward .entry)) (now (reverse .entry))
-        (now (rows .entry)) (now (counts .entry)) (now (control .entry)) in
-        let after = stateOf (now (store .exit)) (now (forward .exit)) (now (reverse .exit))
-        (now (rows .exit)) (now (counts .exit)) (now (control .exit)) in
+        let before = entering store forward reverse rows counts (now (control .entry)) in
+        let after = leaving store forward reverse rows counts (now (control .exit)) in
         ⌜ WritePromise s before row column (now (bytes .entry)) after r ⌝ }
 {
     let t = access::write(
@@ -201,8 +111,8 @@ pub extern "C" fn aqua_write(
     );
     control.head = t.ring.head;
     control.passed = t.ring.passed;
-    control.spill[t.bank] = t.spill;
-    control.acts[t.bank] = t.acts;
+    control.spill[t.bank.index] = t.bank.spill;
+    control.acts[t.bank.index] = t.bank.acts;
     t.outcome
 }
 
@@ -218,13 +128,11 @@ pub extern "C" fn aqua_tick(
     counts: &mut [u32],
 ) -> u32
     ensures { λ r.
-        let before = stateOf (now (store .entry)) (now (forward .entry)) (now (reverse .entry))
-        (now (rows .entry)) (now (counts .entry)) (now (control .entry)) in
-        let after = stateOf (now (store .entry)) (now (forward .entry)) (now (reverse .entry))
-        (now (rows .exit)) (now (counts .exit)) (now (control .exit)) in
+        let before = entering store forward reverse rows counts (now (control .entry)) in
+        let after = leaving store forward reverse rows counts (now (control .exit)) in
         ⌜ TickPromise s before after r ⌝ }
 {
-    let t = upkeep::tick(*control, s, store, forward, reverse, rows, counts);
+    let t = epoch::tick(*control, s, store, forward, reverse, rows, counts);
     *control = t.control;
     t.number
 }
@@ -242,8 +150,7 @@ pub extern "C" fn aqua_inspect_number(
     counts: &[u32],
 ) -> u32
     ensures { λ r.
-        let lent = stateOf (now (store .entry)) (now (forward .entry)) (now (reverse .entry))
-        (now (rows .entry)) (now (counts .entry)) (now (control .entry)) in
+        let lent = entering store forward reverse rows counts (now (control .entry)) in
         ⌜ InspectNumberPromise s lent row r ⌝ }
 {
     look::inspect_number(*control, s, row, store, forward, reverse, rows, counts)
@@ -261,8 +168,7 @@ pub fn inspect_part<'a>(
     counts: &[u32],
 ) -> &'a [u8]
     ensures { λ r.
-        let lent = stateOf (now (store .entry)) (now (forward .entry)) (now (reverse .entry))
-        (now (rows .entry)) (now (counts .entry)) (now (control .entry)) in
+        let lent = entering store forward reverse rows counts (now (control .entry)) in
         ⌜ now r ≡ inspectPart s lent row ⌝ }
 {
     look::inspect_part(*control, s, row, store, forward, reverse, rows, counts)
@@ -281,11 +187,10 @@ pub extern "C" fn aqua_inspect_span(
     counts: &[u32],
 ) -> Span
     ensures { λ r.
-        let lent = stateOf (now (store .entry)) (now (forward .entry)) (now (reverse .entry))
-        (now (rows .entry)) (now (counts .entry)) (now (control .entry)) in
+        let lent = entering store forward reverse rows counts (now (control .entry)) in
         ⌜ InspectSpanPromise s lent row r ⌝ }
 {
-    figures::inspect_span(*control, s, row, store, forward, reverse, rows, counts)
+    look::inspect_span(*control, s, row, store, forward, reverse, rows, counts)
 }
 
 // Returns the least quarantine size, in slots; times are in nanoseconds.
@@ -298,7 +203,8 @@ pub extern "C" fn aqua_least_size(
     threshold: u64,
 ) -> Sum
     ensures { λ r.
-        let times : SizeTimes-of = record { trefw = trefw; trc = trc; tmov = tmov; banks = banks; threshold = threshold } in
+        let times : SizeTimes-of =
+        record { trefw = trefw; trc = trc; tmov = tmov; banks = banks; threshold = threshold } in
         ⌜ r ≡ sumOf (leastSize times) ⌝ }
 {
     figures::sum_of(sizing::least_size(SizeTimes {

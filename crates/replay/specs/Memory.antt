@@ -5,7 +5,7 @@ use mathlib.Core.Bool.{Bool, _&&_}
 use lib.Dec.{leb}
 use lib.ListN.{replicate}
 use Rattle.geometry.specs.declared.Settings.{Settings}
-use Rattle.engine.specs.State.{State, newControl}
+use Rattle.engine.specs.State.{State, stateOf, newControl}
 
 -- '(N + Q) × W bytes'
 abbrev pub storeBytes : Settings → ℕ
@@ -18,14 +18,8 @@ trackerEntries S = S .b * S .k
 -- 'store .. all zero at start'; the rest is written by set-up
 abbrev pub lent : Settings → State
 lent S =
-    record {
-      store = replicate (storeBytes S) 0;
-      forward = replicate (S .n) 0;
-      reverse = replicate (S .q) 0;
-      rows = replicate (trackerEntries S) 0;
-      counts = replicate (trackerEntries S) 0;
-      control = newControl;
-    }
+    stateOf (replicate (storeBytes S) 0) (replicate (S .n) 0) (replicate (S .q) 0)
+    (replicate (trackerEntries S) 0) (replicate (trackerEntries S) 0) newControl
 
 -- 'store at most 32,768 bytes'
 abbrev pub mostStore : ℕ

@@ -1,4 +1,4 @@
--- The marks of the worn slots, made bank after bank, and in each from its last entry to its first. Assumes nothing.
+-- The marks of the worn slots are made bank after bank, and in each from its last entry to its first. Assumes nothing.
 use Prim.Native.Nat.{ℕ, _+_, _-_, _*_, _<_, _≤_, zero-le}
 use native.Mathlib.Nat.{not-suc-le-zero}
 use native.Mathlib.Omega.{arith}
@@ -19,7 +19,7 @@ use Rattle.banks.proofs.Portions.{portion-cut}
 use Rattle.banks.proofs.Banks.{bank-in}
 use Rattle.tracking.specs.Worn.{worn}
 use Rattle.tracking.proofs.Worn.{worn-here, worn-past, worn-none}
-use Rattle.engine.specs.Steps.{skippedOf}
+use Rattle.engine.specs.Round.{skippedOf}
 use Rattle.engine.proofs.Skipping.{skip-same}
 use Rattle.seek.specs.Seeking.{wornBefore, skipsBefore, Seekable, markedBy, skipsMarked, MarkedIn, Marked}
 use Rattle.seek.proofs.OfBank.{rows-fit, counts-fit, others-fit}

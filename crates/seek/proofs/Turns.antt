@@ -1,4 +1,4 @@
--- The loop that looks at one slot after another, round Q, for any test of a slot. Assumes nothing.
+-- The loop looks at one slot after another, round Q, for any test of a slot. Assumes nothing.
 use Prim.Native.Nat.{ℕ, suc, _+_, _-_, _%_, _<_, _≤_, zero-le}
 use native.Mathlib.Nat.{zero-add, sub-zero}
 use native.Mathlib.Omega.{arith}
@@ -8,7 +8,7 @@ use mathlib.Core.Bool.{Bool, true, false, cond}
 use lib.Dec.{ltb}
 use borrow.Author.Tests.{lt-ltb, le-ltb}
 use Rattle.geometry.proofs.Cases.{lt?}
-use Rattle.engine.specs.Steps.{skippedOf}
+use Rattle.engine.specs.Round.{skippedOf}
 use Rattle.engine.proofs.GoneBy.{next-in}
 use Rattle.engine.proofs.Skipping.{skip-on, skip-none, skip-most, cut-short}
 

@@ -13,7 +13,7 @@ use Rattle.geometry.specs.Entry.{empty}
 use Rattle.banks.specs.Portions.{portion}
 use Rattle.banks.specs.Banks.{bankOf}
 use Rattle.tracking.specs.Worn.{worn}
-use Rattle.engine.specs.Steps.{skippedOf}
+use Rattle.engine.specs.Round.{skippedOf}
 
 -- The entry `changed`, of the entries of all banks, is the one that step 2 will change: after it that entry names the place of
 -- the access, and no other slot than the row's own. So it is left out here: whether physical row x is worn, by the other entries

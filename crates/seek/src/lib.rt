@@ -11,14 +11,15 @@ ghost use lib.Dec.{ltb};
 ghost use lib.ListN.{length, getD, set, drop, replicate};
 ghost use Rattle.geometry.specs.Entry.{empty};
 ghost use Rattle.scan.specs.Scan.{indexOf};
-ghost use Rattle.geometry.specs.Numbering.{slotRow};
+ghost use Rattle.geometry.specs.Numbering.{slot, slotRow};
 ghost use Rattle.banks.specs.Banks.{bankOf};
-ghost use Rattle.engine.specs.Steps.{skippedOf};
+ghost use Rattle.engine.specs.Round.{skippedOf};
 ghost use Rattle.seek.specs.Seeking.{wornBefore, skipsBefore, Seekable, markedBy, skipsMarked, MarkedIn, Marked};
 use geometry::ForwardEntry;
 use geometry::PhysicalRow;
 use geometry::Ring;
 use geometry::Settings;
+use geometry::Slot;
 
 // Returns the lowest entry from one on, but for one left out, that names a physical row; the number of entries where none
 // does.
@@ -56,29 +57,36 @@ fn is_skipped(
     s: Settings,
     entry: ForwardEntry,
     changed: usize,
-    slot: u32,
+    slot: Slot,
     rows: &[u16],
     counts: &[u32],
 ) -> bool
-    requires { ⌜ Seekable s changed (now rows) (now counts) × (slot < s .q) ⌝ }
-    ensures { λ r. ⌜ r ≡ skipsBefore s (entry .0) changed (now (rows .entry)) (now (counts .entry)) slot ⌝ }
+    requires { ⌜ Seekable s changed (now rows) (now counts) × (slot .0 < s .q) ⌝ }
+    ensures { λ r. ⌜ r ≡ skipsBefore s (entry .0) changed (now (rows .entry)) (now (counts .entry)) (slot .0) ⌝ }
 {
-    if (entry.0 as u32) == slot {
+    if entry.0 == slot.0 {
         return true;
     }
-    let row = PhysicalRow((s.n + slot) as u64);
-    is_worn(s, changed, row, rows, counts)
+    is_worn(s, changed, geometry::slot_row(s, slot), rows, counts)
+}
+
+// Returns the index after one, round q.
+fn index_after(q: usize, at: usize) -> usize
+    requires { ⌜ (at < q) × (q ≤ 5500) ⌝ }
+    ensures { λ r. ⌜ r ≡ (at + 1) % q ⌝ }
+{
+    if at + 1 == q {
+        return 0;
+    }
+    at + 1
 }
 
 // Returns the slot after a slot, round Q.
-fn slot_after(s: Settings, slot: u32) -> u32
-    requires { ⌜ slot < s .q ⌝ }
-    ensures { λ r. ⌜ r ≡ (slot + 1) % s .q ⌝ }
+fn slot_after(s: Settings, at: Slot) -> Slot
+    requires { ⌜ (at .0 < s .q) × (s .q ≤ 5500) ⌝ }
+    ensures { λ r. ⌜ r ≡ slot ((at .0 + 1) % s .q) ⌝ }
 {
-    if slot + 1 == s.q {
-        return 0;
-    }
-    slot + 1
+    Slot(index_after(s.q as usize, at.0 as usize) as u16)
 }
 
 // Returns how many of so many slots from one on, round Q, are skipped before the first that is not. For each the tracker
@@ -87,15 +95,15 @@ fn skipped_by_scan(
     s: Settings,
     entry: ForwardEntry,
     changed: usize,
-    from: u32,
+    from: Slot,
     most: u32,
     rows: &[u16],
     counts: &[u32],
 ) -> u32
-    requires { ⌜ Seekable s changed (now rows) (now counts) × (from < s .q) ⌝ }
+    requires { ⌜ Seekable s changed (now rows) (now counts) × (from .0 < s .q) ⌝ }
     ensures { λ r.
         let skip = skipsBefore s (entry .0) changed (now (rows .entry)) (now (counts .entry)) in
-        ⌜ r ≡ skippedOf skip (s .q) most from ⌝ }
+        ⌜ r ≡ skippedOf skip (s .q) most (from .0) ⌝ }
 {
     let mut slot = from;
     let mut n: u32 = 0;
@@ -128,7 +136,7 @@ fn mark(s: Settings, bank: usize, name: u16, is: bool, marks: &mut [bool])
     }
     let slot = (row - first) as usize;
     if slot < marks.len() {
-        if banks::bank_of(s, PhysicalRow(row as u64)) == bank {
+        if banks::bank_of(s, PhysicalRow(name as u64)) == bank {
             marks[slot] = is;
         }
     }
@@ -175,19 +183,20 @@ fn mark_worn(s: Settings, changed: usize, rows: &[u16], counts: &[u32], marks: &
 }
 
 // Returns how many of so many slots from one on, round Q, are skipped before the first that is not, by the marks of the
-// worn ones.
-fn skipped_by_marks(s: Settings, entry: ForwardEntry, from: u32, most: u32, marks: &[bool]) -> u32
-    requires { ⌜ (s .q ≤ length (now marks)) × (from < s .q) ⌝ }
-    ensures { λ r. ⌜ r ≡ skippedOf (skipsMarked (entry .0) (now (marks .entry))) (s .q) most from ⌝ }
+// worn ones. A slot is its index in the marks here: a refusal with 9 walks over all that are left.
+fn skipped_by_marks(s: Settings, entry: ForwardEntry, from: Slot, most: u32, marks: &[bool]) -> u32
+    requires { ⌜ (s .q ≤ length (now marks)) × (from .0 < s .q) × (s .q ≤ 5500) ⌝ }
+    ensures { λ r. ⌜ r ≡ skippedOf (skipsMarked (entry .0) (now (marks .entry))) (s .q) most (from .0) ⌝ }
 {
-    let mut slot = from;
+    let q = s.q as usize;
+    let own = entry.0 as usize;
+    let mut at = from.0 as usize;
     let mut n: u32 = 0;
     while n < most {
-        let at = slot as usize;
-        if !(((entry.0 as u32) == slot) | marks[at]) {
+        if !((own == at) | marks[at]) {
             return n;
         }
-        slot = slot_after(s, slot);
+        at = index_after(q, at);
         n += 1;
     }
     n
@@ -198,15 +207,15 @@ fn skipped_by_marking(
     s: Settings,
     entry: ForwardEntry,
     changed: usize,
-    from: u32,
+    from: Slot,
     most: u32,
     rows: &[u16],
     counts: &[u32],
 ) -> u32
-    requires { ⌜ Seekable s changed (now rows) (now counts) × (from < s .q) ⌝ }
+    requires { ⌜ Seekable s changed (now rows) (now counts) × (from .0 < s .q) ⌝ }
     ensures { λ r.
         let skip = skipsBefore s (entry .0) changed (now (rows .entry)) (now (counts .entry)) in
-        ⌜ r ≡ skippedOf skip (s .q) most from ⌝ }
+        ⌜ r ≡ skippedOf skip (s .q) most (from .0) ⌝ }
 {
     let mut marks = unmarked();
     mark_worn(s, changed, rows, counts, &mut marks);
@@ -239,9 +248,10 @@ pub fn skipped(
         ⌜ r ≡ skippedOf skip (s .q) (s .q - ring .passed) (ring .head) ⌝ }
 {
     let most = s.q - ring.passed;
-    let n = skipped_by_scan(s, entry, changed, ring.head, least(most, 16), rows, counts);
+    let head = Slot(ring.head as u16);
+    let n = skipped_by_scan(s, entry, changed, head, least(most, 16), rows, counts);
     if n < 16 {
         return n;
     }
-    skipped_by_marking(s, entry, changed, ring.head, most, rows, counts)
+    skipped_by_marking(s, entry, changed, head, most, rows, counts)
 }

@@ -9,7 +9,7 @@ use native.Mathlib.Omega.{arith}
 use Rattle.geometry.specs.declared.Settings.{Settings}
 use Rattle.conditions.specs.Conditions.{lengthsHold}
 use Rattle.engine.specs.State.{State, lengthsOf}
-use Rattle.engine.specs.Ladder.{_▹_, settingsNumber, fitNumber, setUpNumber, tickNumber, accessNumber}
+use Rattle.engine.specs.Ladder.{_▹_, settingsNumber, fitNumber, setUpNumber, controlNumber, tickNumber, accessNumber}
 use Rattle.engine.specs.Ladder as ladders
 use Rattle.engine.specs.Calls as calls
 use Rattle.engine.proofs.Rungs.{halts, goes-on, applies}
@@ -20,43 +20,44 @@ use Rattle.figures.specs.Promises.{SetUpPromise, AccessPromise}
 use Rattle.figures.specs.Span.{spanOf}
 use Rattle.figures.proofs.Spans.{span-part}
 use Rattle.history.specs.Run as run
-use Rattle.history.specs.Demand2.{standing}
-use Rattle.history.specs.Demand3.{Kept}
-use Rattle.history.specs.Window.{EachWindow}
-use Rattle.history.specs.Tally as tally
-use Rattle.history.specs.Run.{OfAccepted, Each, OneOf}
-use Rattle.history.specs.Estimates.{unobserved, observed, Concludes}
-use Rattle.history.specs.Spent.{begun as new-epoch, progressed, Spent}
-use Rattle.history.proofs.Invariant.{Inv}
+use Rattle.history.specs.Run.{Each, OneOf}
+use Rattle.history.specs.Chain.{Idle, misfit as lent-misfit, looks, Chain, end, call, idle, Claim, OfChains, CallClaim, AnyCall}
+use Rattle.history.specs.Demand2.{InverseHolds, BytesHold, Usual}
+use Rattle.history.specs.Demand3.{Demand3Holds}
+use Rattle.history.specs.Window.{WindowHolds}
+use Rattle.history.specs.Estimates.{EstimatesHold}
+use Rattle.history.specs.Spent.{NotSpentEarlyHolds}
 use Rattle.history.proofs.Groups.{ladder, step-number}
-use Rattle.history.proofs.Chain.{Chain, end, call, idle, Idle, misfit as lent-misfit, looks}
-use Rattle.history.proofs.History.{inv-set-up, inv-chain, kept, usual-number}
+use Rattle.history.proofs.Chain.{chain-append}
+use Rattle.history.proofs.History.{kept, inverse-kept, next-usual}
 use Rattle.history.proofs.Window.{each-window}
 use Rattle.history.proofs.Estimates.{concludes}
 use Rattle.history.proofs.Spent.{spent-late}
 use Rattle.history.proofs.Memory.{returned}
 use Rattle.history.specs.Demand1.{allowed, bufferOf}
 use Rattle.history.proofs.Refusals.{demand-1}
-use Rattle.served.specs.Transcript.{Exchange, read, write, tick, inspectNumber, inspectSpan, Promised, Logged, whole, misfit, Meets, Transcript, answerOf, seen, seenOf}
-use Rattle.served.specs.Claims.{Proper, Demand1Served, Demand3Served, WindowServed, Answers3, NumberOccurs, Preserved, Demand2Served, EstimatesServed, NotSpentEarlyServed, BeginningsServed}
+use Rattle.served.specs.Transcript.{inspectNumber, inspectSpan, read, write, look, Exchange, rank, tick, Promised}
+use Rattle.served.specs.Transcript.{Logged, whole, misfit, Meets, Transcript, answerOf, seen, seenOf}
+use Rattle.served.specs.Claims.{Proper, Demand1Served, OfTranscripts, OfCallsAfter, Demand3Served, WindowServed, Answers3}
+use Rattle.served.specs.Claims.{NumberOccurs, Demand2Served, EstimatesServed, NotSpentEarlyServed, BeginningsServed}
 
 -- ---- one exchange
 
 -- an exchange with an answer of its own; a span has none
 data Tells : Exchange → Type 0 where
-  tells-read : (row : ℕ) (buffer : List ℕ) (outcome : Outcome) (filled : List ℕ) → Tells (read row buffer outcome filled)
-  tells-write : (row column : ℕ) (bytes : List ℕ) (outcome : Outcome) → Tells (write row column bytes outcome)
+  tells-read : (row : ℕ) (buffer : List ℕ) (outcome : Outcome) (filled : List ℕ) → Tells (rank (read row buffer outcome filled))
+  tells-write : (row column : ℕ) (bytes : List ℕ) (outcome : Outcome) → Tells (rank (write row column bytes outcome))
+  tells-number : (row number : ℕ) → Tells (rank (look (inspectNumber row number)))
   tells-tick : (number : ℕ) → Tells (tick number)
-  tells-number : (row number : ℕ) → Tells (inspectNumber row number)
 
 -- what holds of each exchange with an answer of its own, and of each span, holds of every exchange
 exchange-cases : (P : Exchange → Type 0) → ((x : Exchange) → Tells x → P x)
-    → ((row : ℕ) (span : Span) → P (inspectSpan row span)) → (x : Exchange) → P x
-exchange-cases P tells spans (read row buffer o filled) = tells _ (tells-read row buffer o filled)
-exchange-cases P tells spans (write row column bytes o) = tells _ (tells-write row column bytes o)
+    → ((row : ℕ) (span : Span) → P (rank (look (inspectSpan row span)))) → (x : Exchange) → P x
+exchange-cases P tells spans (rank (read row buffer o filled)) = tells _ (tells-read row buffer o filled)
+exchange-cases P tells spans (rank (write row column bytes o)) = tells _ (tells-write row column bytes o)
+exchange-cases P tells spans (rank (look (inspectNumber row number))) = tells _ (tells-number row number)
+exchange-cases P tells spans (rank (look (inspectSpan row span))) = spans row span
 exchange-cases P tells spans (tick number) = tells _ (tells-tick number)
-exchange-cases P tells spans (inspectNumber row number) = tells _ (tells-number row number)
-exchange-cases P tells spans (inspectSpan row span) = spans row span
 
 abbrev stepOf : State → run.Answer → run.Step
 stepOf σ answer = record { state = σ; answer = answer }
@@ -71,8 +72,21 @@ told : (S : Settings) (before after : State) (x : Exchange) → Tells x → Prom
 unfolding run.step
 told S before after x (tells-read row buffer outcome filled) p = access-told (calls.read S before row buffer) after outcome filled p
 told S before after x (tells-write row column bytes outcome) p = access-told (calls.write S before row column bytes) after outcome [] p
-told S before after x (tells-tick number) p = ap run.ofNoted p
 told S before after x (tells-number row number) p = rw (p .0, p .1)
+told S before after x (tells-tick number) p = ap run.ofNoted p
+
+-- a look that tells no number
+abbrev silent : run.Look → run.Event
+silent x = record { call = run.rank (run.look x); answer = run.figureless 0 [] }
+
+-- what holds of any call on the memory σ, and of a look that tells no number, holds of an exchange there
+exchanged : (S : Settings) (P : run.Event → State → Type 0) (σ σ′ : State)
+    → ((c : run.Call) → P (run.eventOf c (run.step S σ c)) ((run.step S σ c) .state)) → ((x : run.Look) → P (silent x) σ′)
+    → (x : Exchange) → Promised S σ x σ′ → P (seen x) σ′
+exchanged S P σ σ′ answered quiet =
+    exchange-cases (λ x. Promised S σ x σ′ → P (seen x) σ′)
+    (λ x t p. subst (λ (s : run.Step). P (run.eventOf ((seen x) .call) s) (s .state)) (sym (told S σ σ′ x t p)) (answered ((seen x) .call)))
+    (λ row span p. quiet (run.inspect row))
 
 -- ---- demand 1
 
@@ -107,7 +121,7 @@ module _ (S : Settings) (settings : settingsNumber S ≡ 0) (lent : State) (othe
   stops-at-3 y e = halts y (λ z. omega arith) ∙ e
 
   tick-3 : tickNumber S lent ≡ 3
-  unfolding tickNumber
+  unfolding controlNumber
   tick-3 = stops-at-3 _ set-up-3
 
   inspect-3 : (r : ℕ) → ladders.inspectNumber S lent r ≡ 3
@@ -116,9 +130,9 @@ module _ (S : Settings) (settings : settingsNumber S ≡ 0) (lent : State) (othe
 
   ladder-3 : (c : run.Call) → ladder S lent c ≡ 3
   unfolding accessNumber
-  ladder-3 (run.access a) = stops-at-3 _ tick-3
+  ladder-3 (run.rank (run.access a)) = stops-at-3 _ tick-3
+  ladder-3 (run.rank (run.look x)) = inspect-3 (run.rowLooked x)
   ladder-3 run.tick = tick-3
-  ladder-3 (run.inspect r) = inspect-3 r
 
   module _ (after : State) (x : Exchange) where
     number-3 : Tells x → Promised S lent x after → (seen x) .answer .number ≡ 3
@@ -141,8 +155,8 @@ module _ (S : Settings) (settings : settingsNumber S ≡ 0) (lent : State) (othe
   answers-3 : (x : Exchange) → Tells x → (seen x) .answer .number ≡ 3 → Answers3 x
   answers-3 x (tells-read row buffer o filled) e = e
   answers-3 x (tells-write row column bytes o) e = e
-  answers-3 x (tells-tick number) e = e
   answers-3 x (tells-number row number) e = e
+  answers-3 x (tells-tick number) e = e
 
   misfits : (after : State) (x : Exchange) → Promised S lent x after → Misfit after x
   misfits after =
@@ -150,7 +164,7 @@ module _ (S : Settings) (settings : settingsNumber S ≡ 0) (lent : State) (othe
       (λ x t p.
       let e = number-3 after x t p in
       record { idles = lent-misfit e; keeps = after-kept after x t p; answers = answers-3 x t e })
-      (λ row span p. record { idles = looks row refl; keeps = p .1; answers = p .0 ∙ span-3 row })
+      (λ row span p. record { idles = looks (run.inspect row) refl; keeps = p .1; answers = p .0 ∙ span-3 row })
 
 -- ---- the transcript
 
@@ -168,7 +182,7 @@ module _ (S : Settings) (settings : settingsNumber S ≡ 0) where
   linked {σ} {between} {σ′} {es} (whole x) m rest =
       exchange-cases (λ x. Promised S σ x between → Chain S σ (seen x ∷ es) σ′)
       (λ x t p. joined x t p rest)
-      (λ row span p. idle (looks row refl) (subst (λ (s : State). Chain S s es σ′) (p .1) rest))
+      (λ row span p. idle (looks (run.inspect row) refl) (subst (λ (s : State). Chain S s es σ′) (p .1) rest))
       x m
   linked {σ′ = σ′} {es} (misfit lent after x) m rest =
       let k = misfits S settings lent (m .0) after x (m .1) in
@@ -177,30 +191,6 @@ module _ (S : Settings) (settings : settingsNumber S ≡ 0) where
   chain : (es : List Logged) {σ σ′ : State} → Transcript S σ es σ′ → Chain S σ (map seenOf es) σ′
   chain [] {σ} {σ′} t = subst (λ (s : State). Chain S s [] σ′) t end
   chain (e ∷ es) t = linked e (t .1 .0) (chain es (t .1 .1))
-
-  -- the invariant after an event: it is that of a chain of one
-  after-event : {σ between : State} (e : Logged) → Meets S σ e between → (τ₀ τ : tally.Tally) → Inv S σ τ₀ τ
-      → (τ₁ : tally.Tally) × (τ₂ : tally.Tally) × Inv S between τ₁ τ₂
-  after-event e m τ₀ τ I = inv-chain S (linked e m end) τ₀ τ I
-
-  usual-told : (σ between : State) (x : Exchange) → Tells x → Promised S σ x between → (τ₀ τ : tally.Tally) → Inv S σ τ₀ τ
-      → OneOf (0 ∷ 5 ∷ 6 ∷ 8 ∷ 9 ∷ []) ((seen x) .answer .number)
-  usual-told σ between x t p τ₀ τ I =
-      subst (OneOf (0 ∷ 5 ∷ 6 ∷ 8 ∷ 9 ∷ [])) (ap (λ (s : run.Step). s .answer .number) (sym (told S σ between x t p))) (usual-number S σ τ₀ τ I ((seen x) .call))
-
-  number-occurs : (σ between : State) (e : Logged) → Meets S σ e between → (τ₀ τ : tally.Tally) → Inv S σ τ₀ τ → NumberOccurs e
-  number-occurs σ between (whole x) m τ₀ τ I =
-      exchange-cases (λ x. Promised S σ x between → OneOf (0 ∷ 5 ∷ 6 ∷ 8 ∷ 9 ∷ []) ((seen x) .answer .number))
-      (λ x t p. usual-told σ between x t p τ₀ τ I)
-      (λ row span p. inl refl)
-      x m
-  number-occurs σ between (misfit lent after x) m τ₀ τ I = misfits S settings lent (m .0) after x (m .1) .answers
-
-  numbers-occur : (es : List Logged) (σ σ′ : State) → Transcript S σ es σ′ → (τ₀ τ : tally.Tally) → Inv S σ τ₀ τ → Each NumberOccurs es
-  numbers-occur [] σ σ′ t τ₀ τ I = tt
-  numbers-occur (e ∷ es) σ σ′ t τ₀ τ I =
-      let next = after-event e (t .1 .0) τ₀ τ I in
-      (number-occurs σ (t .0) e (t .1 .0) τ₀ τ I, numbers-occur es (t .0) σ′ (t .1 .1) _ _ (next .2))
 
 -- ---- the theorems
 
@@ -212,70 +202,65 @@ settings-0 : (S : Settings) (blank : State) → (calls.setUp S blank) .number �
 unfolding calls.setUp calls.noted
 settings-0 S blank z = let f = fit S blank z in settings-pass S (f .ranges) (f .limit)
 
-module _ (S : Settings) (blank σ σ′ : State) (es : List Logged) (begun : SetUpPromise S blank σ 0) (t : Transcript S σ es σ′) where
+module _ (S : Settings) (blank σ : State) (begun : SetUpPromise S blank σ 0) where
+  abbrev new : State
+  new = (calls.setUp S blank) .state
+
   zero : (calls.setUp S blank) .number ≡ 0
   zero = accepted-set-up S blank σ begun .0
 
   settings : settingsNumber S ≡ 0
   settings = settings-0 S blank zero
 
-  whole-chain : Chain S ((calls.setUp S blank) .state) (map seenOf es) σ′
-  whole-chain = subst (λ (s : State). Chain S s (map seenOf es) σ′) (accepted-set-up S blank σ begun .1) (chain S settings es t)
+  -- a transcript after set-up
+  from-set-up : {σ′ : State} (es : List Logged) → Transcript S σ es σ′ → Chain S new (map seenOf es) σ′
+  from-set-up {σ′} es t = subst (λ (s : State). Chain S s (map seenOf es) σ′) (accepted-set-up S blank σ begun .1) (chain S settings es t)
 
-  I : Inv S ((calls.setUp S blank) .state) tally.start tally.start
-  I = inv-set-up S blank zero
+  -- a call after a chain
+  number-occurs : {before : List run.Event} {between : State} → Chain S new before between
+      → (e : Logged) (σ′ : State) → Meets S between e σ′ → NumberOccurs e
+  number-occurs {before} {between} past (whole x) σ′ m =
+      exchanged S (λ e σ. Usual e) between σ′ (next-usual S blank between before zero past) (λ x. inl refl) x m
+  number-occurs past (misfit lent after x) σ′ m = misfits S settings lent (m .0) after x (m .1) .answers
 
-  kept-served : Kept S (map seenOf es)
-  kept-served = kept S blank zero whole-chain
+  -- and a transcript after it
+  numbers-occur : {before : List run.Event} {between : State} → Chain S new before between
+      → (es : List Logged) (σ′ : State) → Transcript S between es σ′ → Each NumberOccurs es
+  numbers-occur past [] σ′ t = tt
+  numbers-occur past (e ∷ es) σ′ t =
+      (number-occurs past e (t .0) (t .1 .0), numbers-occur (chain-append past (linked S settings e (t .1 .0) end)) es σ′ (t .1 .1))
 
-  windows : EachWindow S (map seenOf es)
-  windows = each-window S blank zero whole-chain
+-- what holds of every chain holds of every transcript
+transcripts : (P : Claim) → OfChains P → OfTranscripts P
+transcripts P h S blank σ σ′ es begun t = h S blank σ′ (map seenOf es) (zero S blank σ begun) (from-set-up S blank σ begun es t)
 
-  preserved : Preserved S (standing S blank) es σ′
-  preserved =
-      let bytes = returned S blank zero whole-chain in
-      record {
-        inverse = inv-chain S whole-chain tally.start tally.start I .2 .sound .inverse;
-        reads = bytes .0;
-        spans = λ r row-in span p. rw (p, span-part S σ′ r) (bytes .1 r row-in);
-        numbers = numbers-occur S settings es σ σ′ t tally.start tally.start
-            (subst (λ (s : State). Inv S s tally.start tally.start) (sym (accepted-set-up S blank σ begun .1)) I);
-      }
-
-  concluded : (after : State) (x : Exchange) → Tells x → Promised S σ′ x after
-      → OfAccepted (Concludes S (observed unobserved (map seenOf es)) after) (seen x)
-  concluded after x tells p =
-      subst (λ (s : run.Step). OfAccepted (Concludes S (observed unobserved (map seenOf es)) (s .state)) (run.eventOf ((seen x) .call) s))
-      (sym (told S σ′ after x tells p))
-      (concludes S blank zero whole-chain ((seen x) .call))
-
-  spent : (after : State) (x : Exchange) → Tells x → Promised S σ′ x after → (seen x) .answer .number ≡ 9
-      → Spent S (progressed new-epoch (map seenOf es))
-  spent after x tells p e =
-      spent-late S blank zero whole-chain ((seen x) .call) (ap (λ (s : run.Step). s .answer .number) (sym (told S σ′ after x tells p)) ∙ e)
+-- likewise of a call after it
+calls-after : (P : CallClaim) → OfChains (AnyCall P)
+    → ((S : Settings) (es : List run.Event) (x : run.Look) (σ : State) → P S es (silent x) σ) → OfCallsAfter P
+calls-after P h quiet S blank σ between σ′ es x begun t =
+    exchanged S (P S (map seenOf es)) between σ′ (transcripts (AnyCall P) h S blank σ between es begun t) (λ x. quiet S (map seenOf es) x σ′) x
 
 pub demand-3-served : Demand3Served
-demand-3-served S blank σ σ′ es begun t = kept-served S blank σ σ′ es begun t
+demand-3-served = transcripts Demand3Holds kept
 
 pub window-served : WindowServed
-window-served S blank σ σ′ es begun t = windows S blank σ σ′ es begun t
-
-pub demand-2-served : Demand2Served
-demand-2-served S blank σ σ′ es begun t = preserved S blank σ σ′ es begun t
+window-served = transcripts WindowHolds each-window
 
 pub estimates-served : EstimatesServed
-estimates-served S blank σ between σ′ es x begun t =
-    exchange-cases (λ x. Promised S between x σ′ → OfAccepted (Concludes S (observed unobserved (map seenOf es)) σ′) (seen x))
-    (concluded S blank σ between es begun t σ′)
-    (λ row span p. tt)
-    x
+estimates-served = calls-after EstimatesHold concludes (λ S es x σ. tt)
 
 pub not-spent-early-served : NotSpentEarlyServed
-not-spent-early-served S blank σ between σ′ es x begun t =
-    exchange-cases (λ x. Promised S between x σ′ → (seen x) .answer .number ≡ 9 → Spent S (progressed new-epoch (map seenOf es)))
-    (spent S blank σ between es begun t σ′)
-    (λ row span p e. absurd (suc-ne-zero 8 (sym e)))
-    x
+not-spent-early-served = calls-after NotSpentEarlyHolds spent-late (λ S es x σ e. absurd (suc-ne-zero 8 (sym e)))
+
+pub demand-2-served : Demand2Served
+demand-2-served S blank σ σ′ es begun t =
+    let bytes = transcripts BytesHold returned S blank σ σ′ es begun t in
+    record {
+      inverse = transcripts InverseHolds inverse-kept S blank σ σ′ es begun t;
+      reads = bytes .0;
+      spans = λ r row-in span p. rw (p, span-part S σ′ r) (bytes .1 r row-in);
+      numbers = numbers-occur S blank σ begun end es σ′ (subst (λ (s : State). Transcript S s es σ′) (accepted-set-up S blank σ begun .1) t);
+    }
 
 pub beginnings-served : BeginningsServed
 beginnings-served S σ σ′ [] ys t = (σ, (refl, t))

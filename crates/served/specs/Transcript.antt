@@ -12,26 +12,40 @@ use Rattle.figures.specs.declared.Span.{Span}
 use Rattle.figures.specs.Promises.{ReadPromise, WritePromise, TickPromise, InspectNumberPromise, InspectSpanPromise}
 use Rattle.history.specs.Run as run
 
--- A call of a C function: its arguments, and what it answers.
-pub data Exchange : Type 0 where
+-- A call of a C function that only looks at a row: its arguments, and what it answers.
+pub data Looked : Type 0 where
+  -- `aqua_inspect_number`
+  inspectNumber : (row number : ℕ) → Looked
+  -- `aqua_inspect_span`
+  inspectSpan : (row : ℕ) (span : Span) → Looked
+
+-- A call of a C function, the tick apart: its arguments, and what it answers.
+pub data RankExchange : Type 0 where
   -- `aqua_read`: the row and the buffer before; the numbers answered, and the buffer after
-  read : (row : ℕ) (buffer : List ℕ) (outcome : Outcome) (filled : List ℕ) → Exchange
+  read : (row : ℕ) (buffer : List ℕ) (outcome : Outcome) (filled : List ℕ) → RankExchange
   -- `aqua_write`
-  write : (row column : ℕ) (bytes : List ℕ) (outcome : Outcome) → Exchange
+  write : (row column : ℕ) (bytes : List ℕ) (outcome : Outcome) → RankExchange
+  look : Looked → RankExchange
+
+-- Any call of a C function.
+pub data Exchange : Type 0 where
+  rank : RankExchange → Exchange
   -- `aqua_tick`
   tick : (number : ℕ) → Exchange
-  -- `aqua_inspect_number`
-  inspectNumber : (row number : ℕ) → Exchange
-  -- `aqua_inspect_span`
-  inspectSpan : (row : ℕ) (span : Span) → Exchange
 
--- What the function promises of it; before, after: what it is lent. The two functions of inspect may write nothing.
+-- What its function promises of a call that only looks; lent: what it is lent.
+abbrev pub LookPromised : Settings → State → Looked → Type 0
+LookPromised S lent (inspectNumber row number) = InspectNumberPromise S lent row number
+LookPromised S lent (inspectSpan row span) = InspectSpanPromise S lent row span
+
+-- What its function promises of a call; before, after: what it is lent. A function that only looks may write nothing.
 abbrev pub Promised : Settings → State → Exchange → State → Type 0
-Promised S before (read row buffer outcome filled) after = ReadPromise S before row buffer after outcome filled
-Promised S before (write row column bytes outcome) after = WritePromise S before row column bytes after outcome
+Promised S before (rank (read row buffer outcome filled)) after =
+    ReadPromise S before row buffer after outcome filled
+Promised S before (rank (write row column bytes outcome)) after =
+    WritePromise S before row column bytes after outcome
+Promised S before (rank (look x)) after = LookPromised S before x × (after ≡ before)
 Promised S before (tick number) after = TickPromise S before after number
-Promised S before (inspectNumber row number) after = InspectNumberPromise S before row number × (after ≡ before)
-Promised S before (inspectSpan row span) after = InspectSpanPromise S before row span × (after ≡ before)
 
 -- A call as the transcript logs it, with what it is lent.
 pub data Logged : Type 0 where
@@ -56,23 +70,32 @@ Transcript S σ (e ∷ es) σ′ = (between : State) × (Meets S σ e between ×
 
 -- the numbers of an access, and the read buffer after it
 abbrev pub answerOf : Outcome → List ℕ → run.Answer
-answerOf o filled =
-    record {
-      number = o .number;
-      slot = o .slot;
-      row = o .row;
-      place = o .place;
-      estimate = o .estimate;
-      buffer = filled;
-    }
+answerOf o filled = run.accessAnswer (o .number) (o .slot) (o .row) (o .place) (o .estimate) filled
+
+-- the call that was made
+abbrev pub lookOf : Looked → run.Look
+lookOf (inspectNumber row number) = run.inspect row
+lookOf (inspectSpan row span) = run.inspect row
+
+-- the number that it tells; a span comes with none, and stands with 0
+abbrev pub numberTold : Looked → ℕ
+numberTold (inspectNumber row number) = number
+numberTold (inspectSpan row span) = 0
+
+-- likewise of any call but the tick: the call that was made, and what it answered
+abbrev pub callOf : RankExchange → run.RankCall
+callOf (read row buffer o filled) = run.access (run.read row buffer)
+callOf (write row column bytes o) = run.access (run.write row column bytes)
+callOf (look x) = run.look (lookOf x)
+
+abbrev pub answerTold : RankExchange → run.Answer
+answerTold (read row buffer o filled) = answerOf o filled
+answerTold (write row column bytes o) = answerOf o []
+answerTold (look x) = run.figureless (numberTold x) []
 
 abbrev pub seen : Exchange → run.Event
-seen (read row buffer o filled) = record { call = run.access (run.read row buffer); answer = answerOf o filled }
-seen (write row column bytes o) = record { call = run.access (run.write row column bytes); answer = answerOf o [] }
+seen (rank x) = record { call = run.rank (callOf x); answer = answerTold x }
 seen (tick number) = record { call = run.tick; answer = run.figureless number [] }
-seen (inspectNumber row number) = record { call = run.inspect row; answer = run.figureless number [] }
--- a span comes with no number
-seen (inspectSpan row span) = record { call = run.inspect row; answer = run.figureless 0 [] }
 
 abbrev pub seenOf : Logged → run.Event
 seenOf (whole x) = seen x

@@ -7,16 +7,16 @@ ghost use lib.ListN.{length, set};
 ghost use Rattle.geometry.specs.Numbering.{homeRow, slotRow};
 ghost use Rattle.geometry.specs.Entry.{empty, isEmpty};
 ghost use Rattle.row_layout.specs.Bytes.{copied};
-ghost use Rattle.engine.specs.State.{storageOf};
+ghost use Rattle.engine.specs.State.{storageOf, storageEntering, storageLeaving};
 ghost use Rattle.engine.specs.Steps.{moveInto, left, relocated};
 ghost use Rattle.settle.specs.Settling.{Sendable, Movable};
 use geometry::ForwardEntry;
-use geometry::PhysicalRow;
 use geometry::ReverseEntry;
 use geometry::Ring;
 use geometry::Settings;
 use geometry::Slot;
-use geometry::VisibleRow;
+use verdict::Found;
+use verdict::Verdict;
 
 // Empties the reverse entry of the slot that a row with that forward entry leaves.
 fn leave(reverse: &mut [u16], entry: ForwardEntry)
@@ -51,38 +51,36 @@ fn send_home(s: Settings, d: Slot, held: ReverseEntry, store: &mut [u8], forward
     forward[at] = ForwardEntry::EMPTY.0;
 }
 
-// Moves a row with that forward entry from its place to slot d, which has the reverse entry held; up: the rise of
-// `passed`.
+// Moves the row that was found from its place to the slot of the verdict.
 pub fn relocate(
     s: Settings,
     ring: Ring,
-    row: VisibleRow,
-    entry: ForwardEntry,
-    place: PhysicalRow,
-    d: Slot,
-    held: ReverseEntry,
-    up: u32,
+    f: Found,
+    v: Verdict,
     store: &mut [u8],
     forward: &mut [u16],
     reverse: &mut [u16],
 ) -> Ring
-    requires { let lent = storageOf (now store) (now forward) (now reverse) ring in
-        ⌜ Movable s (row .0) (entry .0) (place .0) (d .0) (held .0) up lent ⌝ }
+    requires { ⌜ Movable s f v (storageOf (now store) (now forward) (now reverse) ring) ⌝ }
     ensures { λ r.
-        let before = storageOf (now (store .entry)) (now (forward .entry)) (now (reverse .entry)) ring in
-        let after = storageOf (now (store .exit)) (now (forward .exit)) (now (reverse .exit)) r in
-        ⌜ after ≡ relocated s (row .0) (place .0) (moveInto (d .0) (held .0)) before ⌝ }
+        let move = moveInto (v .d .0) (v .held .0) in
+        let before = storageEntering store forward reverse ring in
+        ⌜ storageLeaving store forward reverse r ≡ relocated s (f .row .0) (f .place .0) move before ⌝ }
 {
+    let d = v.d;
+    let held = v.held;
     send_home(s, d, held, store, forward);
-    let target = geometry::slot_row(s, d);
-    row_bytes::copy_row(store, s.w as usize, place, target);
+    let place = f.place;
+    row_bytes::copy_row(store, s.w as usize, place, geometry::slot_row(s, d));
+    let entry = f.entry;
     leave(reverse, entry);
+    let row = f.row;
     let to = d.0 as usize;
     reverse[to] = ReverseEntry::of_row(row).0;
     let at = row.0 as usize;
     forward[at] = ForwardEntry::of_slot(d).0;
     Ring {
         head: ((d.0 as u32) + 1) % s.q,
-        passed: ring.passed + up,
+        passed: ring.passed + v.up,
     }
 }

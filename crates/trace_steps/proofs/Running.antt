@@ -9,7 +9,7 @@ use lib.Seq.{drop-cons}
 use Rattle.geometry.specs.declared.Settings.{Settings}
 use Rattle.engine.specs.State.{State, stateOf}
 use Rattle.engine.specs.Calls.{Noted, notedOf, setUp}
-use Rattle.upkeep.specs.declared.Numbered.{Numbered}
+use Rattle.epoch.specs.declared.Numbered.{Numbered}
 use Rattle.page.specs.Put.{Put}
 use Rattle.lines.specs.declared.Line.{Line}
 use Rattle.line_text.specs.LineText.{lineBytes}
@@ -19,8 +19,8 @@ use Rattle.trace_steps.specs.Steps.{lineRoom, steppedOf, stepped, stepsF
 -- two states of one memory
 pub record SameLengths (σ τ : State) : Type 0 where
   pub store : length (σ .store) ≡ length (τ .store)
-  pub forward : length (σ .forward) ≡ length (τ .forward)
-  pub reverse : length (σ .reverse) ≡ length (τ .reverse)
+  pub forward : length (σ .tables .forward) ≡ length (τ .tables .forward)
+  pub reverse : length (σ .tables .reverse) ≡ length (τ .tables .reverse)
   pub rows : length (σ .rows) ≡ length (τ .rows)
   pub counts : length (σ .counts) ≡ length (τ .counts)
 

@@ -8,7 +8,7 @@ use lib.ListN.{replicate}
 use Rattle.geometry.specs.declared.Settings.{Settings}
 use Rattle.engine.specs.State.{State}
 use Rattle.engine.specs.Calls.{setUp}
-use Rattle.history.specs.Run.{read, Call, access, tick, inspect, Answer, Event, step, events}
+use Rattle.history.specs.Run.{read, access, look, Call, rank, tick, Answer, Event, step, events}
 use Rattle.lines.specs.declared.Line.{Line}
 use Rattle.lines.specs.Lines.{accessLine, bare}
 use Rattle.line_text.specs.LineText.{lineBytes}
@@ -27,13 +27,13 @@ lineRoom = 105
 
 -- 'A step is a row to read, or 65535 for a tick.' A read gets a new buffer, whose bytes are not printed
 abbrev pub callOf : Settings → ℕ → Call
-callOf S x = cond (eqb x 65535) tick (access (read x (replicate (S .w) 0)))
+callOf S x = cond (eqb x 65535) tick (rank (access (read x (replicate (S .w) 0))))
 
 -- a read or a write; a trace makes reads and ticks
 abbrev pub isAccess : Call → Bool
-isAccess (access a) = true
+isAccess (rank (access a)) = true
+isAccess (rank (look x)) = false
 isAccess tick = false
-isAccess (inspect r) = false
 
 -- the line of a step; '`-` .. for all three on a tick or refusal'
 abbrev pub lineOf : Event → Line

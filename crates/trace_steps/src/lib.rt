@@ -2,7 +2,7 @@
 ghost use mathlib.Core.Path.{_≡_};
 ghost use Prim.Native.Nat.{_*_, _≤_};
 ghost use lib.ListN.{length, take, replicate};
-ghost use Rattle.engine.specs.State.{stateOf, newControl};
+ghost use Rattle.engine.specs.State.{entering, leaving, newControl};
 ghost use Rattle.trace_steps.specs.Steps.{widest, lineRoom, steppedOf, stepped, runLines};
 use geometry::Control;
 use geometry::Settings;
@@ -40,14 +40,12 @@ fn step(
 ) -> Stepped
     requires { ⌜ s .w ≤ widest ⌝ }
     ensures { λ r.
-        let before = stateOf (now (store .entry)) (now (forward .entry)) (now (reverse .entry))
-        (now (rows .entry)) (now (counts .entry)) control in
-        let after = stateOf (now (store .exit)) (now (forward .exit)) (now (reverse .exit))
-        (now (rows .exit)) (now (counts .exit)) (r .control) in
+        let before = entering store forward reverse rows counts control in
+        let after = leaving store forward reverse rows counts (r .control) in
         ⌜ steppedOf after (r .line) ≡ stepped s before x ⌝ }
 {
     if x == TICK {
-        let ticked = upkeep::tick(control, s, store, forward, reverse, rows, counts);
+        let ticked = epoch::tick(control, s, store, forward, reverse, rows, counts);
         let next = ticked.control;
         return Stepped {
             line: lines::bare(ticked.number),
@@ -56,7 +54,7 @@ fn step(
     }
     let mut buffer = row_buffer();
     let w = s.w as usize;
-    let read = rank::read_core(
+    let read = access::read(
         control,
         s,
         x,
@@ -68,10 +66,9 @@ fn step(
         counts,
     );
     let outcome = read.outcome;
-    let next = read.control;
     Stepped {
         line: lines::line_of_access(outcome),
-        control: next,
+        control: access::record_after(control, read),
     }
 }
 
@@ -90,11 +87,10 @@ pub fn run(
     requires { ⌜ (s .w ≤ widest) × (lineRoom * length (now steps) ≤ length (now page)) ⌝ }
     ensures short { λ r. ⌜ r ≤ length (now (page .entry)) ⌝ }
     ensures printed { λ r.
-        let lent = stateOf (now (store .entry)) (now (forward .entry)) (now (reverse .entry))
-        (now (rows .entry)) (now (counts .entry)) newControl in
+        let lent = entering store forward reverse rows counts newControl in
         ⌜ take r (now (page .exit)) ≡ runLines s lent (now (steps .entry)) ⌝ }
 {
-    let new = upkeep::set_up(geometry::NEW, s, store, forward, reverse, rows, counts);
+    let new = epoch::set_up(geometry::NEW, s, store, forward, reverse, rows, counts);
     let mut last = new.control;
     let mut at: usize = 0;
     let mut i: usize = 0;

@@ -1,14 +1,15 @@
-// What is decided of an access that 1 to 7 let pass: the place of its row (step 1), 8, whether it moves its row (step 4), and
-// then 9 and the destination's 7. Nothing lent is written here.
+// What is decided of an access that 1 to 7 let pass: 8, whether it moves its row (step 4), and then 9 and the destination's 7.
+// Nothing lent is written here.
 ghost use mathlib.Core.Path.{_≡_};
 ghost use Prim.Native.Nat.{_<_, _≤_};
 ghost use lib.Dec.{eqb};
-ghost use lib.ListN.{length};
-ghost use Rattle.geometry.specs.Numbering.{slot, physical};
+ghost use Rattle.geometry.specs.Numbering.{slot};
 ghost use Rattle.tracking.specs.Track.{isDue};
-ghost use Rattle.engine.specs.Steps.{placeBy, destinationFrom};
-ghost use Rattle.seek.specs.Seeking.{skippedBefore, Seekable};
-ghost use Rattle.verdict.specs.Verdicts.{stopped, quarantineVerdict};
+ghost use Rattle.engine.specs.State.{tablesIn};
+ghost use Rattle.engine.specs.Round.{destinationFrom};
+ghost use Rattle.verdict.specs.Verdicts.{stopped, quarantineVerdict, Judgeable};
+ghost use Rattle.verdict.specs.Verdicts.{skippedFor, Decidable};
+use banks::Bank;
 use geometry::ForwardEntry;
 use geometry::PhysicalRow;
 use geometry::ReverseEntry;
@@ -16,6 +17,19 @@ use geometry::Ring;
 use geometry::Settings;
 use geometry::Slot;
 use geometry::VisibleRow;
+use tracker::Update;
+
+// What an access found before the bytes.
+pub struct Found {
+    pub row: VisibleRow,
+    // the row's forward entry, and its place (step 1)
+    pub entry: ForwardEntry,
+    pub place: PhysicalRow,
+    // the place's bank
+    pub bank: Bank,
+    // what step 2 changes
+    pub update: Update,
+}
 
 // What is decided of a row that is to be quarantined.
 pub struct Verdict {
@@ -39,16 +53,6 @@ fn stop(number: u32) -> Verdict
     }
 }
 
-// Returns the place of a row with that forward entry (step 1).
-pub fn place(s: Settings, row: VisibleRow, entry: ForwardEntry) -> PhysicalRow
-    ensures { λ r. ⌜ r ≡ physical (placeBy s (entry .0) (row .0)) ⌝ }
-{
-    if entry.is_empty() {
-        return geometry::home(row);
-    }
-    geometry::slot_row(s, entry.slot())
-}
-
 // Tells whether 8 applies, where the place's bank has had so many accepted accesses.
 pub fn is_full(s: Settings, acts: u32) -> bool
     ensures { λ r. ⌜ r ≡ eqb acts (s .l) ⌝ }
@@ -64,42 +68,45 @@ fn destination(s: Settings, head: u32, over: u32) -> Slot
     Slot(((head + over) % s.q) as u16)
 }
 
-// Judges 9 and the destination's 7 for a row to be quarantined, and returns where it goes where neither applies.
-// entry: the row's forward entry; changed: the tracker's entry that step 2 will change.
-pub fn quarantine(
-    s: Settings,
-    ring: Ring,
-    entry: ForwardEntry,
-    changed: usize,
-    forward: &[u16],
-    reverse: &[u16],
-    rows: &[u16],
-    counts: &[u32],
-) -> Verdict
-    requires { ⌜
-        Seekable s changed (now rows) (now counts)
-        × (length (now forward) ≡ s .n) × (length (now reverse) ≡ s .q)
-        × (ring .head < s .q) × (ring .passed ≤ s .q) ⌝ }
-    ensures { λ r.
-        let over = skippedBefore s (ring .head) (entry .0) changed (now (rows .entry)) (now (counts .entry)) in
-        ⌜ r ≡ quarantineVerdict s ring (now (forward .entry)) (now (reverse .entry)) over ⌝ }
+// Judges 9 and the destination's 7 for a row to be quarantined where the head skips so many slots, and returns where it
+// goes where neither applies.
+pub fn judge(s: Settings, ring: Ring, over: u32, forward: &[u16], reverse: &[u16]) -> Verdict
+    requires { ⌜ Judgeable s ring over (now forward) (now reverse) ⌝ }
+    ensures { λ r. ⌜ r ≡ quarantineVerdict s ring (tablesIn forward reverse) over ⌝ }
 {
-    let over = seek::skipped(s, ring, entry, changed, rows, counts);
     if s.q <= ring.passed + over {
         return stop(engine::QUARANTINE);
     }
     let d = destination(s, ring.head, over);
-    let at = d.0 as usize;
-    let held = ReverseEntry(reverse[at]);
-    if !ladder::points_back(held.0, s.n, forward, d.0 as u32) {
+    if ladder::destination_unsound(s, d, forward, reverse) {
         return stop(engine::POINTERS);
     }
     Verdict {
         number: 0,
         d: d,
-        held: held,
+        held: ladder::reverse_of(reverse, d),
         up: over + 1,
     }
+}
+
+// Decides of the row that was found where it is to be quarantined: its destination is searched, and then judged.
+pub fn decide(
+    s: Settings,
+    ring: Ring,
+    f: Found,
+    forward: &[u16],
+    reverse: &[u16],
+    rows: &[u16],
+    counts: &[u32],
+) -> Verdict
+    requires { ⌜ Decidable s ring f (now forward) (now reverse) (now rows) (now counts) ⌝ }
+    ensures { λ r.
+        let over = skippedFor s ring f (now (rows .entry)) (now (counts .entry)) in
+        ⌜ r ≡ quarantineVerdict s ring (tablesIn forward reverse) over ⌝ }
+{
+    let entry = f.entry;
+    let over = seek::skipped(s, ring, entry, f.update.entry, rows, counts);
+    judge(s, ring, over, forward, reverse)
 }
 
 // Tells whether an estimate calls for a move: there is one, and it is a multiple of A. 0 stands for none and is below A, so

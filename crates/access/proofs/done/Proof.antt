@@ -4,14 +4,8 @@ use borrow.Author.Needs.{needs}
 use Rattle.access.proofs.done.Statement.{statement}
 use Rattle.access.proofs.done.Tie as tie
 
-spill-after-requires : tie.Need-spill-after-requires
-spill-after-requires c κs = search needs
-
-add-t7 : tie.Need-add-t7
-add-t7 c = search needs
-
 returns : tie.Need-returns
 returns c = simp (c .before .spill-after .ensures, add-one)
 
 pub done-spec : {M : Type 1} → statement M
-done-spec = tie.close (tie.spec spill-after-requires add-t7 returns)
+done-spec = tie.close (tie.spec (λ c κs. search needs) (λ c. search needs) returns)

@@ -1,373 +1,234 @@
--- `write`: the refusals, the bytes, and what comes after them. Each stage bundles what is known there. Assumes nothing.
+-- `write`: the refusals, the bytes, and what comes after them. Each stage names what is known there. Assumes nothing.
 use Prim.Native.Nat.{ℕ}
 use native.Mathlib.Omega.{arith}
-use mathlib.Core.Path.{_≡_, refl, sym, _∙_}
-use mathlib.Core.Bool.{Bool}
+use mathlib.Core.Bool.{false}
 use mathlib.Core.List.{List}
 use lib.ListN.{length}
 use borrow.Author.Needs.{needs}
-use borrow.Author.Tests.{eqb-true, eqb-false}
 use Rattle.geometry.specs.declared.Settings.{Settings}
-use Rattle.geometry.specs.declared.ForwardEntry.{ForwardEntry}
+use Rattle.engine.specs.declared.Asked.{Asked}
 use Rattle.engine.specs.State.{State, stateOf}
-use Rattle.engine.specs.Ladder.{writeOff, tickNumber}
-use Rattle.ladder.proofs.Stages.{earlyNumber, reverse-long, others-asked}
-use Rattle.verdict.proofs.Judged.{access-early, access-8}
-use Rattle.access.specs.declared.Found.{Found}
-use Rattle.access.proofs.Refuses.{first-stops, others-stop, tick-0, number-is}
-use Rattle.access.proofs.Finds.{Entered, Banked, Seen, fits, row-small, bankable, bank-small, findable, end-small}
-use Rattle.access.proofs.Finds.{acts-are, estimable, followable, seekable}
-use Rattle.access.proofs.Takes.{Stays, Judged, Goes, stays-taken, last-is, goes-taken, place-inside, movable}
-use Rattle.access.proofs.Serves.{write-refused, bytes-fit, written-long, write-stays, write-goes}
+use Rattle.engine.specs.Ladder.{writeAsked}
+use Rattle.verdict.specs.declared.Found.{Found}
+use Rattle.access.proofs.Refuses.{Fitted, fit-stops, fit-passed, first-able, others-able, control-stops, control-passed}
+use Rattle.access.proofs.Refuses.{Ticked, tables-able, row-stops, row-passed, Passed}
+use Rattle.access.proofs.Finds.{foundWith, row-small, bankable, Banked, bank-found, findable, countable-there, full-stops, all-found}
+use Rattle.access.proofs.Finds.{Sought, due-able, servable, Due, falls-due, decidable}
+use Rattle.access.proofs.Takes.{Taken, stays, last-stops, Going, going, movable}
+use Rattle.access.proofs.Serves.{write-refused, writable, written-long, write-stays, write-goes}
 use Rattle.access.proofs.write.Statement.{statement}
 use Rattle.access.proofs.write.Tie as tie
 
--- ---- what is lent
-module _ (a : tie.Start) where
+-- ---- what is lent and asked
+module _ (b : tie.Start) where
   abbrev s : Settings
-  s = a .args .s
+  s = b .args .s
 
   abbrev σ : State
   σ =
-      let l = a .args in
+      let l = b .args in
       stateOf (l .store .now) (l .forward .now) (l .reverse .now) (l .rows .now) (l .counts .now) (l .t1)
 
-  abbrev r : ℕ
-  r = a .args .row
-
   abbrev column : ℕ
-  column = a .args .column
+  column = b .args .column
 
   abbrev bytes : List ℕ
-  bytes = a .args .bytes .now
+  bytes = b .args .bytes .now
 
-  -- whether 6 applies
-  abbrev off : Bool
-  off = writeOff s column (length bytes)
+  abbrev a : Asked
+  a = writeAsked s (b .args .row) column (length bytes)
 
--- ---- the first bank is judged
-module _ (n : tie.After-first-bank-number) where
-  abbrev start : tie.Start
-  start = n .before .before .before .before .before .before .before .before .before .before .before .before .before .before
+-- ---- the places that the needs look back to, and where each began
 
--- ---- past 1 to 4
-module _ (q : tie.Else2) where
-  abbrev at-first : tie.After-first-bank-number
-  at-first = q .before .before .before .before
+abbrev begun : tie.After-fit-number → tie.Start
+begun n = n .before .before .before .before .before .before .before .before .before .before .before .before .before
 
-  abbrev start₂ : tie.Start
-  start₂ = start at-first
+abbrev start₁ : tie.Else1 → tie.Start
+start₁ e = begun (e .before)
 
-  ticked : 0 ≡ tickNumber (s start₂) (σ start₂)
-  ticked =
-      tick-0 (s start₂) (σ start₂) (at-first .first-bank-number .ensures) (q .before .before .before .if1 .left)
-      (q .before .others-unsound .ensures) (q .if2 .left)
+abbrev start₂ : tie.Else2 → tie.Start
+start₂ q = start₁ (q .before .before .before .before .before .before .before)
 
--- ---- 5 to 7 are judged
-module _ (k : tie.After-row-number) where
-  abbrev at-tick : tie.Else2
-  at-tick = k .before .before .before .before .before
+abbrev start₃ : tie.Else3 → tie.Start
+start₃ q = start₂ (q .before .before .before .before .before)
 
-  abbrev start₃ : tie.Start
-  start₃ = start₂ at-tick
+abbrev start₄ : tie.After-bank-at → tie.Start
+start₄ k = start₃ (k .before .before .before .before)
 
-  abbrev entry : ForwardEntry
-  entry = k .before .before .entry-of .result
+abbrev looked : tie.After-update-of → tie.After-bank-at
+looked u = u .before .before .before .before .before .before .before .before
 
-  numbered : k .row-number .result ≡ earlyNumber (s start₃) (σ start₃) (r start₃) (off start₃)
-  numbered =
-      number-is (s start₃) (σ start₃) (r start₃) (ticked at-tick) (k .before .before .before .before .write-off .ensures)
-      (k .before .before .entry-of .ensures) (k .row-number .ensures)
+abbrev start₅ : tie.After-update-of → tie.Start
+start₅ u = start₄ (looked u)
 
--- ---- past them
-module _ (q : tie.Else3) where
-  entered : let a = start₃ (q .before) in Entered (s a) (σ a) (r a) (off a) (entry (q .before))
-  entered =
-      record {
-        early-0 = sym (numbered (q .before)) ∙ q .if3 .left;
-        entry-is = q .before .before .before .entry-of .ensures;
-      }
+abbrev judged : tie.Else6 → tie.After-update-of
+judged y = y .before .before .before .before .before .before .before .before
 
--- ---- the bank of the place is found
-module _ (b : tie.After-bank-of) where
-  abbrev at-row : tie.After-row-number
-  at-row = b .before .before .before
+-- ---- what is known there
 
-  abbrev start₄ : tie.Start
-  start₄ = start₃ at-row
+-- past 1 to 3
+fitted : (e : tie.Else1) → let b = start₁ e in Fitted (s b) (σ b)
+fitted e =
+    let b = start₁ e in
+    fit-passed (s b) (σ b) (e .before .before .lengths-of .ensures) (e .before .fit-number .ensures) (e .if1 .left)
 
-  banked : let p = b .before .place .result in
-      Banked (s start₄) (σ start₄) (r start₄) (off start₄) (entry at-row) p (b .bank-of .result)
-  banked =
-      record {
-        entered = entered (b .before .before);
-        placed = b .before .place .ensures;
-        banked = b .bank-of .ensures;
-      }
+-- past 1 to 4
+ticked : (q : tie.Else2) → let b = start₂ q in Ticked (s b) (σ b)
+ticked q =
+    let f = q .before .before .before in
+    control-passed (fitted (f .before .before .before .before)) (f .first-unsound .ensures)
+    (q .before .others-unsound .ensures) (q .if2 .left)
 
--- ---- past 8, and the entry of step 2 is found
-module _ (g : tie.After-find) where
-  abbrev at-numbers : tie.After-number-of2
-  at-numbers = g .before .before .before .before .before .before
+-- past 1 to 7
+passed : (q : tie.Else3) → let b = start₃ q in Passed (s b) (σ b) (a b)
+passed q =
+    let w = q .before .before .before .before in
+    row-passed (ticked (w .before)) (w .write-asked .ensures) (q .before .row-number .ensures) (q .if3 .left)
 
-  abbrev at-bank : tie.After-bank-of
-  at-bank = at-numbers .before .before .before .before
+-- the place, and its bank
+banked : (k : tie.After-bank-at) → let b = start₄ k in let p = k .before in
+    Banked (s b) (σ b) (a b) (p .before .forward-of .result) (p .place .result) (k .bank-at .result)
+banked k =
+    let p = k .before in
+    bank-found (passed (p .before .before .before)) (p .before .forward-of .ensures) (p .place .ensures) (k .bank-at .ensures)
 
--- ---- and its estimate
-module _ (w : tie.After-estimate) where
-  abbrev at-find : tie.After-find
-  at-find = w .before .before
+-- past 8, all that is found
+abbrev found : tie.After-update-of → Found
+found u =
+    let k = looked u in
+    let p = k .before in
+    foundWith (start₅ u .args .row) (p .before .forward-of .result) (p .place .result) (k .bank-at .result) (u .update-of .result)
 
-  abbrev own-bank : tie.After-bank-of
-  own-bank = at-bank at-find
+sought : (u : tie.After-update-of) → let b = start₅ u in Sought (s b) (σ b) (a b) (found u)
+sought u =
+    let g = u .before .before in
+    let e = g .before .before .before .before in
+    all-found (banked (looked u)) (e .before .is-full .ensures) (e .if4 .left) (g .find .ensures) (u .update-of .ensures)
 
-  abbrev own-numbers : tie.After-number-of2
-  own-numbers = at-numbers at-find
+-- the row stays
+rests : (x : tie.Else5) → let u = x .before .before in let b = start₅ u in Taken (s b) (σ b) (a b) (found u) false
+rests x = stays (sought (x .before .before)) (x .before .is-due .ensures) (x .if5 .left)
 
-  abbrev own-entry : ForwardEntry
-  own-entry = entry (at-row own-bank)
+-- it is to be quarantined, and goes
+due : (t : tie.Then5) → let u = t .before .before in let b = start₅ u in Due (s b) (σ b) (a b) (found u)
+due t = falls-due (sought (t .before .before)) (t .before .is-due .ensures) (t .if5 .taken)
 
-  abbrev start₅ : tie.Start
-  start₅ = start₄ own-bank
+goes : (y : tie.Else6) → let u = judged y in let b = start₅ u in Going (s b) (σ b) (a b) (found u) (y .before .decide .result)
+goes y = going (due (y .before .before .before .before .before .before)) (y .before .decide .ensures) (y .if6 .left)
 
-  abbrev f : Found
-  f =
-      record {
-        place = own-bank .before .place .result;
-        bank = own-bank .bank-of .result;
-        spill = own-numbers .before .number-of .result;
-        acts = own-numbers .number-of2 .result;
-        entry = at-find .find .result;
-        estimate = w .estimate .result;
-      }
-
-  seen : Seen (s start₅) (σ start₅) (r start₅) (off start₅) own-entry f
-  seen =
-      record {
-        banked = banked own-bank;
-        spilled = own-numbers .before .number-of .ensures;
-        acted = own-numbers .number-of2 .ensures;
-        more = eqb-false _ _ (let e = at-find .before .before .before .before in sym (e .before .is-full .ensures) ∙ e .if4 .left);
-        found = at-find .find .ensures;
-        estimated = w .estimate .ensures;
-      }
-
--- ---- the row stays
-module _ (x : tie.Else5) where
-  abbrev at-stay : tie.After-estimate
-  at-stay = x .before .before
-
-  stays-here : let a = start₅ at-stay in Stays (s a) (σ a) (r a) (off a) (own-entry at-stay) (f at-stay)
-  stays-here = record { seen = seen at-stay; not-due = sym (x .before .is-due .ensures) ∙ x .if5 .left }
-
--- ---- it is to be quarantined
-module _ (z : tie.After-quarantine) where
-  abbrev at-estimate : tie.After-estimate
-  at-estimate = z .before .before .before .before .before .before .before
-
-  judged : let a = start₅ at-estimate in
-      Judged (s a) (σ a) (r a) (off a) (own-entry at-estimate) (f at-estimate) (z .quarantine .result)
-  judged =
-      let t = z .before .before .before .before .before in
-      record {
-        seen = seen at-estimate;
-        due = sym (t .before .is-due .ensures) ∙ t .if5 .taken;
-        told = z .quarantine .ensures;
-      }
-
--- ---- and is
-module _ (y : tie.Else6) where
-  abbrev start₆ : tie.Start
-  start₆ = start₅ (at-estimate (y .before))
-
-  goes-there : let w = at-estimate (y .before) in
-      Goes (s start₆) (σ start₆) (r start₆) (off start₆) (own-entry w) (f w) (y .before .quarantine .result)
-  goes-there = record { judged = judged (y .before); passes = y .if6 .left }
-
--- ---- what is left to show; `search` finds the rest: what refusals ask, and that each slice keeps its length
+-- ---- the needs; `search` finds the rest: what refusals ask, and that each slice keeps its length
 
 returns : tie.Need-returns
 returns c =
     let n = c .before .before in
-    let a = start n in
-    let met = c .before .if1 .taken in
-    write-refused (s a) (σ a) (r a) (column a) (bytes a) (c .refused .ensures)
-    (first-stops (s a) (σ a) (n .first-bank-number .ensures) (r a) (off a) met) met
+    let b = begun n in
+    write-refused (column b) (bytes b) (c .refused .ensures)
+    (fit-stops (s b) (σ b) (n .before .lengths-of .ensures) (n .fit-number .ensures) (c .before .if1 .taken))
+
+first-unsound-requires : tie.Need-first-unsound-requires
+first-unsound-requires c κs = first-able (fitted (c .before .before .before))
 
 others-unsound-requires : tie.Need-others-unsound-requires
-others-unsound-requires c κs =
-    let n = c .before .before in
-    others-asked (s (start n)) (σ (start n)) (n .first-bank-number .ensures) (c .before .if1 .left)
+others-unsound-requires c κs = others-able (fitted (c .before .before .before .before .before))
 
 returns-2 : tie.Need-returns-2
 returns-2 c =
-    let m = c .before .before in
-    let n = m .before .before .before in
-    let a = start n in
-    let four =
-    others-stop (s a) (σ a) (n .first-bank-number .ensures) (m .before .before .if1 .left)
-    (m .others-unsound .ensures) (r a) (off a) (c .before .if2 .taken) in
-    write-refused (s a) (σ a) (r a) (column a) (bytes a) (c .refused2 .ensures) four (λ z. omega arith)
+    let f = c .before .before .before .before in
+    let e = f .before .before .before .before in
+    let b = start₁ e in
+    write-refused (column b) (bytes b) (c .refused2 .ensures)
+    (control-stops (fitted e) (f .first-unsound .ensures) (c .before .before .others-unsound .ensures) (c .before .if2 .taken))
 
 row-number-requires : tie.Need-row-number-requires
-row-number-requires c κs =
-    let q = c .before .before .before .before in
-    reverse-long (s (start₂ q)) (σ (start₂ q)) (ticked q) refl
+row-number-requires c κs = tables-able (ticked (c .before .before .before))
 
 returns-3 : tie.Need-returns-3
 returns-3 c =
-    let k = c .before .before in
-    let a = start₃ k in
-    let met = c .before .if3 .taken in
-    write-refused (s a) (σ a) (r a) (column a) (bytes a) (c .refused3 .ensures)
-    (access-early (s a) (σ a) (r a) (off a) _ (numbered k) met) met
+    let w = c .before .before .before .before .before in
+    let b = start₂ (w .before) in
+    write-refused (column b) (bytes b) (c .refused3 .ensures)
+    (row-stops (ticked (w .before)) (w .write-asked .ensures) (c .before .before .row-number .ensures) (c .before .if3 .taken))
 
 cast-t58 : tie.Need-cast-t58
-cast-t58 c = omega (arith, row-small (entered c))
+cast-t58 c = omega (arith, row-small (passed c))
 
-bank-of-requires : tie.Need-bank-of-requires
-bank-of-requires c κs = bankable (entered (c .before)) (c .place .ensures)
-
-number-of-requires : tie.Need-number-of-requires
-number-of-requires c κs = bank-small (banked (c .before .before))
-
-number-of-requires-2 : tie.Need-number-of-requires-2
-number-of-requires-2 c κs = bank-small (banked (c .before .before .before))
+bank-at-requires : tie.Need-bank-at-requires
+bank-at-requires c κs = bankable (passed (c .before .before .before)) (c .before .forward-of .ensures) (c .place .ensures)
 
 returns-4 : tie.Need-returns-4
 returns-4 c =
-    let b = c .before .before .before .before .before .before .before in
-    let a = start₄ b in
-    let met = eqb-true _ _ (sym (c .before .before .is-full .ensures) ∙ c .before .if4 .taken) in
-    let full = sym (acts-are (banked b) (c .before .before .before .number-of2 .ensures)) ∙ met in
-    let eight = access-8 (s a) (σ a) (r a) (off a) (banked b .entered .early-0) full in
-    write-refused (s a) (σ a) (r a) (column a) (bytes a) (c .refused4 .ensures) eight (λ z. omega arith)
+    let k = c .before .before .before in
+    let b = start₄ k in
+    write-refused (column b) (bytes b) (c .refused4 .ensures)
+    (full-stops (banked k) (c .before .before .is-full .ensures) (c .before .if4 .taken))
 
 find-requires : tie.Need-find-requires
-find-requires c κs = findable (banked (c .before .before .before .before .before .before .before .before .before))
+find-requires c κs = findable (banked (c .before .before .before .before .before))
 
-mul-estimate : tie.Need-mul-estimate
-mul-estimate c = omega (arith, end-small (banked (at-bank c)))
-
-add-estimate : tie.Need-add-estimate
-add-estimate c = omega (arith, end-small (banked (at-bank c)))
-
-estimate-requires : tie.Need-estimate-requires
-estimate-requires c κs =
-    let g = c .before in
-    estimable (banked (at-bank g)) (at-numbers g .before .number-of .ensures) (g .find .ensures)
+update-of-requires : tie.Need-update-of-requires
+update-of-requires c κs = countable-there (banked (c .before .before .before .before .before .before .before)) (c .before .find .ensures)
 
 is-due-requires : tie.Need-is-due-requires
-is-due-requires c κs = fits (seen c .banked .entered) .ranges .a-low
+is-due-requires c κs = due-able (sought c)
 
-quarantine-requires : tie.Need-quarantine-requires
-quarantine-requires c κs =
-    let t = c .before .before .before .before in
-    seekable (seen (t .before .before)) (sym (t .before .is-due .ensures) ∙ t .if5 .taken)
+decide-requires : tie.Need-decide-requires
+decide-requires c κs = decidable (due (c .before .before .before .before))
 
 returns-5 : tie.Need-returns-5
 returns-5 c =
-    let z = c .before .before in
-    let a = start₅ (at-estimate z) in
-    write-refused (s a) (σ a) (r a) (column a) (bytes a) (c .refused5 .ensures) (last-is (judged z)) (c .before .if6 .taken)
+    let d = c .before .before in
+    let t = d .before .before .before .before .before in
+    let b = start₅ (t .before .before) in
+    write-refused (column b) (bytes b) (c .refused5 .ensures) (last-stops (due t) (d .decide .ensures) (c .before .if6 .taken))
 
 write-row-requires : tie.Need-write-row-requires
-write-row-requires c κs =
-    let y = c .before .before in
-    let a = start₆ y in
-    let taken = goes-taken (goes-there y) in
-    (bytes-fit (s a) (σ a) (r a) (column a) (bytes a) taken, place-inside taken)
-
-cast-t84 : tie.Need-cast-t84
-cast-t84 c =
-    let y = c .before .before .before .before .before in
-    omega (arith, row-small (seen (at-estimate (y .before)) .banked .entered))
+write-row-requires c κs = writable (goes (c .before .before) .taken)
 
 go-requires : tie.Need-go-requires
 go-requires c κs =
-    let y = c .before .before .before .before .before .before .before .before .before .before in
-    let a = start₆ y in
-    let put = c .before .before .before .before .before .before .before .write-row .ensures in
-    let long = written-long (s a) (σ a) (r a) (column a) (bytes a) (goes-taken (goes-there y)) put in
-    (followable (goes-there y .judged .seen), movable (goes-there y) _ long)
+    let w = c .before .before .before .before .before .before .before in
+    let y = w .before .before .before in
+    let b = start₅ (judged y) in
+    (servable (goes y .taken .sought), movable (goes y) (written-long (column b) (bytes b) (w .write-row .ensures) (goes y .taken)))
 
 returns-6 : tie.Need-returns-6
 returns-6 c =
     let g = c .before .before .before .before .before .before .before .before .before .before in
-    let y = g .before .before .before .before .before .before .before .before .before .before .before in
-    let a = start₆ y in
-    let bytes-there = g .before .before .before .before .before .before .before .before .write-row .ensures in
-    let left = g .go .last .1 .1 .1 .1 .1 .1 in
-    write-goes (s a) (σ a) (r a) (column a) (bytes a) bytes-there (goes-there y) {store = left .0} {forward = left .1 .0}
-    {reverse = left .1 .1 .0} {rows = left .1 .1 .1 .0} {counts = left .1 .1 .1 .1 .0} (g .go .ensures)
+    let w = g .before .before .before .before .before .before .before .before in
+    let y = w .before .before .before in
+    let b = start₅ (judged y) in
+    write-goes (column b) (bytes b) (w .write-row .ensures) (goes y) (g .go .ensures)
 
 write-row-requires-2 : tie.Need-write-row-requires-2
-write-row-requires-2 c κs =
-    let x = c .before .before in
-    let a = start₅ (at-stay x) in
-    let taken = stays-taken (stays-here x) in
-    (bytes-fit (s a) (σ a) (r a) (column a) (bytes a) taken, place-inside taken)
+write-row-requires-2 c κs = writable (rests (c .before .before))
 
 stay-requires : tie.Need-stay-requires
-stay-requires c κs =
-    let x = c .before .before .before .before .before .before .before in
-    followable (stays-here x .seen)
+stay-requires c κs = servable (sought (c .before .before .before .before .before .before .before .before .before))
 
 returns-7 : tie.Need-returns-7
 returns-7 c =
     let g = c .before .before .before .before in
-    let x = g .before .before .before .before .before .before .before .before in
-    let a = start₅ (at-stay x) in
-    let bytes-there = g .before .before .before .before .before .write-row2 .ensures in
-    write-stays (s a) (σ a) (r a) (column a) (bytes a) bytes-there (stays-here x) (g .stay .ensures)
+    let w = g .before .before .before .before .before in
+    let x = w .before .before .before in
+    let b = start₅ (x .before .before) in
+    write-stays (column b) (bytes b) (w .write-row2 .ensures) (rests x) (g .stay .ensures)
 
 pub write-spec : {M : Type 1} → statement M
 write-spec =
     tie.close
     (tie.spec
-    (λ c. search needs)
-    (λ c. search needs)
-    (λ c κs. search needs)
-    (λ c κs. search needs)
-    (λ c. search needs) (λ c. search needs) (λ c. search needs) (λ c. search needs) (λ c. search needs)
-    returns
-    others-unsound-requires
-    (λ c κs. search needs)
-    (λ c. search needs) (λ c. search needs) (λ c. search needs) (λ c. search needs) (λ c. search needs)
-    returns-2
-    (λ c κs. search needs)
-    (λ c κs. search needs)
-    row-number-requires
-    (λ c κs. search needs)
-    (λ c. search needs) (λ c. search needs) (λ c. search needs) (λ c. search needs) (λ c. search needs)
-    returns-3
-    cast-t58
-    (λ c κs. search needs)
-    bank-of-requires
-    number-of-requires
-    number-of-requires-2
-    (λ c κs. search needs)
-    (λ c κs. search needs)
-    (λ c. search needs) (λ c. search needs) (λ c. search needs) (λ c. search needs) (λ c. search needs)
-    returns-4
-    (λ c. search needs)
-    find-requires
-    mul-estimate
-    add-estimate
-    estimate-requires
-    is-due-requires
-    quarantine-requires
-    (λ c κs. search needs)
-    (λ c. search needs) (λ c. search needs) (λ c. search needs) (λ c. search needs) (λ c. search needs)
-    returns-5
-    (λ c. search needs)
-    write-row-requires
-    cast-t84
-    go-requires
-    (λ c. search needs) (λ c. search needs) (λ c. search needs) (λ c. search needs) (λ c. search needs)
-    returns-6
-    (λ c. search needs)
-    write-row-requires-2
-    stay-requires
-    (λ c. search needs) (λ c. search needs) (λ c. search needs) (λ c. search needs) (λ c. search needs)
-    returns-7)
+    (λ c κs. search needs) (λ c κs. search needs) (λ c κs. search needs) (λ c. search needs) (λ c. search needs) (λ c. search needs)
+    (λ c. search needs) (λ c. search needs) returns
+    (λ c. search needs) (λ c. search needs) first-unsound-requires others-unsound-requires
+    (λ c κs. search needs) (λ c. search needs) (λ c. search needs) (λ c. search needs) (λ c. search needs) (λ c. search needs) returns-2
+    (λ c κs. search needs) row-number-requires
+    (λ c κs. search needs) (λ c. search needs) (λ c. search needs) (λ c. search needs) (λ c. search needs) (λ c. search needs) returns-3
+    cast-t58 (λ c κs. search needs) (λ c κs. search needs) bank-at-requires
+    (λ c κs. search needs) (λ c κs. search needs) (λ c. search needs) (λ c. search needs) (λ c. search needs) (λ c. search needs)
+    (λ c. search needs) returns-4
+    (λ c. search needs) find-requires update-of-requires is-due-requires decide-requires
+    (λ c κs. search needs) (λ c. search needs) (λ c. search needs) (λ c. search needs) (λ c. search needs) (λ c. search needs) returns-5
+    (λ c. search needs) write-row-requires go-requires
+    (λ c. search needs) (λ c. search needs) (λ c. search needs) (λ c. search needs) (λ c. search needs) returns-6
+    (λ c. search needs) write-row-requires-2 stay-requires
+    (λ c. search needs) (λ c. search needs) (λ c. search needs) (λ c. search needs) (λ c. search needs) returns-7)

@@ -1,41 +1,27 @@
--- `block_copy::copy_block` meets its contract: the sign tells on which side the target lies, and the gap is what lies
--- between. Assumes nothing.
-use Prim.Native.Nat.{_+_, _-_, _<_, _≤_}
-use mathlib.Core.Path.{_≡_, ap}
+-- `copy_block`: the gap is what lies between the block and its target, on whichever side that is. Assumes nothing.
+use Prim.Native.Nat.{_+_, _-_, _≤_}
+use mathlib.Core.Path.{_≡_}
 use mathlib.Core.Logic.{inl, inr}
 use native.Mathlib.Omega.{arith}
-use lib.IntN.{_-ℤ_, natAbs}
-use mir.Syntax.{w64}
-use mir.Val.{toZ, ofZ}
 use borrow.Author.Needs.{needs}
-use Rattle.block_copy.proofs.Signs.{difference-fits, stored-behind, negative, not-negative}
 use Rattle.block_copy.proofs.copy_block.Statement.{statement}
 use Rattle.block_copy.proofs.copy_block.Tie as tie
 
-add-source : tie.Need-add-source
-add-source c = search needs
+-- ---- the target lies before the block, or behind it
 
-cast-ahead : tie.Need-cast-ahead
-cast-ahead c = search needs
+abbrev begun-down : tie.After-copy-down-arg → tie.Start
+begun-down d = d .before .before .before
 
-cast-ahead-2 : tie.Need-cast-ahead-2
-cast-ahead-2 c = search needs
+down : (d : tie.After-copy-down-arg) → let a = begun-down d .args in a .to + 4096 ≤ a .from
+down d = elim (begun-down d .pre .2) [ inl before ↦ omega (arith, d .before .if1 .taken) | inr behind ↦ behind ]
 
-sub-ahead : tie.Need-sub-ahead
-sub-ahead c =
-    let a = c .before .args in
-    difference-fits (a .to) (a .from + a .left) (omega arith) (omega arith)
+abbrev begun-up : tie.After-copy-up-arg → tie.Start
+begun-up u = u .before .before .before
 
-add-copy-down : tie.Need-add-copy-down
-add-copy-down c = search needs
+up : (u : tie.After-copy-up-arg) → let a = begun-up u .args in a .from + 4096 ≤ a .to
+up u = elim (begun-up u .pre .2) [ inl before ↦ before | inr behind ↦ omega (arith, u .before .if1 .left) ]
 
--- the target lies before the block
-module _ (p : tie.After-copy-down-arg) where
-  down : let a = p .before .before .before .args in a .to + a .left + 4096 ≤ a .from
-  down =
-      let a = p .before .before .before .args in
-      let less : a .to < a .from + a .left = negative (a .to) (a .from + a .left) (omega arith) (omega arith) (p .before .if1 .taken) in
-      elim (p .before .before .before .pre .2) [ inl before ↦ omega arith | inr behind ↦ behind ]
+-- ---- the needs
 
 sub-copy-down : tie.Need-sub-copy-down
 sub-copy-down c = omega (arith, down c)
@@ -43,81 +29,39 @@ sub-copy-down c = omega (arith, down c)
 sub-copy-down-2 : tie.Need-sub-copy-down-2
 sub-copy-down-2 c = omega (arith, down c)
 
-sub-copy-down-3 : tie.Need-sub-copy-down-3
-sub-copy-down-3 c = omega (arith, down c)
-
 copy-down-requires : tie.Need-copy-down-requires
 copy-down-requires c κs = omega (arith, down c)
 
--- it lies behind the block, and the distance is as it was computed
-module _ (p : tie.After-copy-up-arg) where
-  behind : let a = p .before .before .before .args in a .from + a .left ≤ a .to
-  behind =
-      let a = p .before .before .before .args in
-      not-negative (a .to) (a .from + a .left) (omega arith) (omega arith) (p .before .if1 .left)
-
-  up : let a = p .before .before .before .args in a .from + a .left + 4096 ≤ a .to
-  up = elim (p .before .before .before .pre .2) [ inl before ↦ before | inr other ↦ omega (arith, behind) ]
-
-  ahead : let a = p .before .before .before .args in
-      natAbs (toZ w64 (ofZ w64 (toZ w64 (a .to) -ℤ toZ w64 (a .from + a .left)))) ≡ a .to - (a .from + a .left)
-  ahead =
-      let a = p .before .before .before .args in
-      ap natAbs (stored-behind (a .to) (a .from + a .left) (omega arith) (omega arith) behind)
-
-cast-copy-up : tie.Need-cast-copy-up
-cast-copy-up c =
-    let a = c .before .before .before .args in
-    rw (stored-behind (a .to) (a .from + a .left) (omega arith) (omega arith) (behind c)) (search needs, omega arith)
-
-add-copy-up : tie.Need-add-copy-up
-add-copy-up c = omega (arith, ahead c, up c)
-
 sub-copy-up : tie.Need-sub-copy-up
-sub-copy-up c = omega (arith, ahead c, up c)
+sub-copy-up c = omega (arith, up c)
 
 copy-up-requires : tie.Need-copy-up-requires
-copy-up-requires c κs = omega (arith, ahead c, up c)
-
-same-length : tie.Need-same-length
-same-length c = search needs
+copy-up-requires c κs = omega (arith, up c)
 
 returns : tie.Need-returns
 returns c =
-    let p = c .before .before .before in
-    let a = p .before .before .before .args in
-    let source : a .to + a .left + 4096 + (a .from + a .left - a .to - a .left - 4096) ≡ a .from + a .left = omega (arith, down p) in
+    let d = c .before .before .before in
+    let a = begun-down d .args in
+    let source : a .to + 4096 + (a .from - a .to - 4096) ≡ a .from = omega (arith, down d) in
     rw source at (c .before .before .copy-down .ensures)
-
-same-length-2 : tie.Need-same-length-2
-same-length-2 c = search needs
 
 returns-2 : tie.Need-returns-2
 returns-2 c =
-    let p = c .before .before .before in
-    let a = p .before .before .before .args in
-    let distance = natAbs (toZ w64 (ofZ w64 (toZ w64 (a .to) -ℤ toZ w64 (a .from + a .left)))) in
-    let target : a .from + a .left + 4096 + (distance + a .left - 4096) ≡ a .to + a .left = omega (arith, ahead p, up p) in
+    let u = c .before .before .before in
+    let a = begun-up u .args in
+    let target : a .from + 4096 + (a .to - a .from - 4096) ≡ a .to = omega (arith, up u) in
     rw target at (c .before .before .copy-up .ensures)
 
 pub copy-block-spec : {M : Type 1} → statement M
 copy-block-spec =
     tie.close
     (tie.spec
-    add-source
-    cast-ahead
-    cast-ahead-2
-    sub-ahead
-    add-copy-down
     sub-copy-down
     sub-copy-down-2
-    sub-copy-down-3
     copy-down-requires
-    cast-copy-up
-    add-copy-up
     sub-copy-up
     copy-up-requires
-    same-length
+    (λ c. search needs)
     returns
-    same-length-2
+    (λ c. search needs)
     returns-2)

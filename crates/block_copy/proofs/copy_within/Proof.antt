@@ -1,4 +1,4 @@
--- `block_copy::copy_within` meets its contract: each turn copies the last block of what is left, and the rest comes last.
+-- `copy_within`: each turn copies the last block of what is left, and the rest comes last.
 -- Assumes nothing.
 use Prim.Native.Nat.{_+_, _-_}
 use mathlib.Core.Path.{_≡_, subst}
@@ -57,6 +57,8 @@ copy-within-spec =
     Inv-loop
     μ-loop
     loop-holds
+    (λ c. search needs)
+    (λ c. search needs)
     copy-block-requires
     loop-less
     loop-again

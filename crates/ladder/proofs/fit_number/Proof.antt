@@ -1,4 +1,4 @@
--- `fit_number`: the settings' number, then the lengths. Assumes nothing.
+-- `fit_number` answers the settings' number, then that of the lengths. Assumes nothing.
 use mathlib.Core.Path.{sym, ap, _∙_}
 use mathlib.Core.Bool.{not}
 use Rattle.engine.specs.Ladder.{fitNumber}
@@ -8,27 +8,30 @@ use borrow.Author.Needs.{needs}
 use Rattle.ladder.proofs.fit_number.Statement.{statement}
 use Rattle.ladder.proofs.fit_number.Tie as tie
 
-settings-number-requires : tie.Need-settings-number-requires
-settings-number-requires c κs = search needs
+-- past 1 and 2
+abbrev met : tie.After-lengths-hold → tie.Else1
+met l = l .before
 
 returns : tie.Need-returns
 unfolding fitNumber
 returns c = ends _ (c .before .settings-number .ensures) (c .if1 .taken)
 
-lengths-hold-requires : tie.Need-lengths-hold-requires
-lengths-hold-requires c κs = search needs
-
 returns-2 : tie.Need-returns-2
 unfolding fitNumber
 returns-2 c =
-    continues (c .before .before .before .settings-number .ensures) (c .before .before .if1 .left)
-    (sym (applies 3 (sym (ap not (c .before .lengths-hold .ensures)) ∙ c .if2 .taken)))
+    let l = c .before in
+    let m = met l in
+    continues (m .before .settings-number .ensures) (m .if1 .left)
+    (sym (applies 3 (sym (ap not (l .lengths-hold .ensures)) ∙ c .if2 .taken)))
 
 returns-3 : tie.Need-returns-3
 unfolding fitNumber
 returns-3 c =
-    continues (c .before .before .before .settings-number .ensures) (c .before .before .if1 .left)
-    (sym (goes-by 3 (sym (ap not (c .before .lengths-hold .ensures)) ∙ c .if2 .left)))
+    let l = c .before in
+    let m = met l in
+    continues (m .before .settings-number .ensures) (m .if1 .left)
+    (sym (goes-by 3 (sym (ap not (l .lengths-hold .ensures)) ∙ c .if2 .left)))
 
 pub fit-number-spec : {M : Type 1} → statement M
-fit-number-spec = tie.close (tie.spec settings-number-requires returns lengths-hold-requires returns-2 returns-3)
+fit-number-spec =
+    tie.close (tie.spec (λ c κs. search needs) returns (λ c κs. search needs) returns-2 returns-3)

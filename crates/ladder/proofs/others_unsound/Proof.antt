@@ -1,4 +1,4 @@
--- `others_unsound`: what is found of the banks so far, bank after bank. Assumes nothing.
+-- `others_unsound` tells what is found of the banks so far, bank after bank. Assumes nothing.
 use Prim.Native.Nat.{ℕ, suc, _+_, _-_, _*_, _≤_}
 use mathlib.Core.Path.{_≡_, refl, ap, _∙_}
 use mathlib.Core.Bool.{Bool}
@@ -6,9 +6,9 @@ use mathlib.Core.List.{List}
 use native.Mathlib.Omega.{arith}
 use lib.ListN.{length, getD}
 use Rattle.geometry.specs.declared.Settings.{Settings}
-use Rattle.banks.specs.Banks.{someBank}
+use Rattle.geometry.specs.Ranges.{someBelow}
+use Rattle.geometry.proofs.Below.{below-more}
 use Rattle.banks.proofs.Portions.{portion-lent, portion-fits}
-use Rattle.banks.proofs.Banks.{bank-more}
 use Rattle.engine.specs.Ladder.{trackerUnsound, bankUnsound}
 use Rattle.ladder.specs.Stages.{othersUnsound}
 use borrow.Author.Needs.{needs}
@@ -21,99 +21,64 @@ unsound S spill acts counts c = bankUnsound S spill acts counts (suc c)
 
 abbrev Inv-loop : tie.InvT-loop
 Inv-loop s counts spill acts k b found₀ bank₀ found bank =
-    (1 ≤ bank) × (bank ≤ s .b) × (k ≡ s .k) × (b ≡ s .b) × (found ≡ someBank (unsound s spill acts counts) (bank - 1))
+    (1 ≤ bank) × (bank ≤ s .b) × (k ≡ s .k) × (b ≡ s .b) × (found ≡ someBelow (unsound s spill acts counts) (bank - 1))
 
 abbrev μ-loop : tie.MeasureT-loop
 μ-loop s counts spill acts k b found₀ bank₀ found bank = s .b - bank
 
+-- ---- the places that the needs look back to
+
+abbrev begun : tie.At-loop Inv-loop μ-loop → tie.Start Inv-loop μ-loop
+begun l = l .before .before .before .before .before .before .before .before
+
+-- the bank that the loop has come to is judged
+abbrev turn : tie.After-tracker-unsound Inv-loop μ-loop → tie.In-loop Inv-loop μ-loop
+turn t = t .before .before
+
 -- in the loop the bank's entries are in the table
-module _ (n : tie.In-loop Inv-loop μ-loop) where
-  room : let a = n .before .before .before .before .before .before .before .before .before .args in n .before .loop .bank * a .s .k + a .s .k ≤ length (a .counts .now)
-  room =
-      let a = n .before .before .before .before .before .before .before .before .before .args in
-      portion-fits (a .s .k) (a .s .b) (n .before .loop .bank) (length (a .counts .now)) (n .before .before .before .before .before .before .before .before .before .pre .2)
-      (omega (arith, n .loop-test .taken, n .before .loop .inv .3))
+room : (n : tie.In-loop Inv-loop μ-loop) →
+    let a = begun (n .before) .args in n .before .loop .bank * a .s .k + a .s .k ≤ length (a .counts .now)
+room n =
+    let b = begun (n .before) in
+    portion-fits (b .args .s .k) (b .args .s .b) (n .before .loop .bank) (length (b .args .counts .now)) (b .pre .2)
+    (omega (arith, n .loop-test .taken, n .before .loop .inv .3))
+
+-- ---- the needs
 
 returns : tie.Need-returns Inv-loop μ-loop
-unfolding othersUnsound someBank
+unfolding othersUnsound someBelow
 returns c =
     let a = c .before .before .before .args in
     let none : 0 ≡ a .s .b - 1 = omega (arith, c .if1 .taken) in
-    ap (someBank (unsound (a .s) (a .control .spill) (a .control .acts) (a .counts .now))) none
-
-cast-k : tie.Need-cast-k Inv-loop μ-loop
-cast-k c = search needs
-
-cast-b : tie.Need-cast-b Inv-loop μ-loop
-cast-b c = search needs
+    ap (someBelow (unsound (a .s) (a .control .spill) (a .control .acts) (a .counts .now))) none
 
 loop-holds : tie.Need-loop-holds Inv-loop μ-loop
-unfolding someBank
-loop-holds c = (omega arith, c .before .before .before .before .before .before .before .pre .0, refl, refl, refl)
-
-mul-from : tie.Need-mul-from Inv-loop μ-loop
-mul-from c = omega (arith, room c)
-
-add-to : tie.Need-add-to Inv-loop μ-loop
-add-to c = omega (arith, room c)
-
-mul-tracker-unsound : tie.Need-mul-tracker-unsound Inv-loop μ-loop
-mul-tracker-unsound c = omega (arith, c .loop-test .taken, c .before .loop .inv .3, c .before .before .before .before .before .before .before .before .before .pre .1)
-
-array-read-tracker-unsound : tie.Need-array-read-tracker-unsound Inv-loop μ-loop
-array-read-tracker-unsound c = omega (arith, c .loop-test .taken, c .before .loop .inv .3, c .before .before .before .before .before .before .before .before .before .pre .1)
-
-mul-tracker-unsound-2 : tie.Need-mul-tracker-unsound-2 Inv-loop μ-loop
-mul-tracker-unsound-2 c = mul-tracker-unsound c
-
-array-read-tracker-unsound-2 : tie.Need-array-read-tracker-unsound-2 Inv-loop μ-loop
-array-read-tracker-unsound-2 c = array-read-tracker-unsound c
-
-mul-tracker-unsound-3 : tie.Need-mul-tracker-unsound-3 Inv-loop μ-loop
-mul-tracker-unsound-3 c = omega (arith, room c)
-
-sub-tracker-unsound : tie.Need-sub-tracker-unsound Inv-loop μ-loop
-sub-tracker-unsound c = omega (arith, room c)
-
-part-tracker-unsound-start : tie.Need-part-tracker-unsound-start Inv-loop μ-loop
-part-tracker-unsound-start c = omega (arith, room c)
-
-part-tracker-unsound-end : tie.Need-part-tracker-unsound-end Inv-loop μ-loop
-part-tracker-unsound-end c = omega (arith, room c)
-
-tracker-unsound-requires : tie.Need-tracker-unsound-requires Inv-loop μ-loop
-tracker-unsound-requires c κs = search needs
-
-add-bank : tie.Need-add-bank Inv-loop μ-loop
-add-bank c = omega (arith, c .before .before .loop-test .taken, c .before .before .before .loop .inv .3, c .before .before .before .before .before .before .before .before .before .before .before .pre .1)
-
-loop-less : tie.Need-loop-less Inv-loop μ-loop
-loop-less c = omega (arith, c .before .before .loop-test .taken, c .before .before .before .loop .inv .3)
+unfolding someBelow
+loop-holds c = (search needs, search needs, refl, refl, refl)
 
 loop-again : tie.Need-loop-again Inv-loop μ-loop
 loop-again c =
-    let a = c .before .before .before .before .before .before .before .before .before .before .before .args in
-    let l = c .before .before .before .loop in
-    let test : ℕ → Bool = unsound (a .s) (a .control .spill) (a .control .acts) (a .counts .now) in
+    let n = turn c in
+    let a = begun (n .before) .args in
+    let l = n .before .loop in
+    let judge : ℕ → Bool = bankUnsound (a .s) (a .control .spill) (a .control .acts) (a .counts .now) in
+    let spill : ℕ = getD (a .control .spill) (l .bank) 0 in
+    let acts : ℕ = getD (a .control .acts) (l .bank) 0 in
+    let here : c .tracker-unsound .result ≡ judge (l .bank) =
+    c .tracker-unsound .ensures ∙ ap (trackerUnsound (a .s) spill acts) (portion-lent (a .s .k) (l .bank) (a .counts .now)) in
     let next : l .bank ≡ suc (l .bank - 1) = omega (arith, l .inv .0) in
-    let here : c .tracker-unsound .result ≡ bankUnsound (a .s) (a .control .spill) (a .control .acts) (a .counts .now) (l .bank) =
-    c .tracker-unsound .ensures
-    ∙ ap (trackerUnsound (a .s) (getD (a .control .spill) (l .bank) 0) (getD (a .control .acts) (l .bank) 0)) (portion-lent (a .s .k) (l .bank) (a .counts .now)) in (
-      omega (arith, l .inv .0),
-      omega (arith, c .before .before .loop-test .taken, l .inv .3),
-      l .inv .2,
-      l .inv .3,
-      bank-more test (l .bank - 1) (l .inv .4) (here ∙ ap (bankUnsound (a .s) (a .control .spill) (a .control .acts) (a .counts .now)) next)
-          ∙ ap (someBank test) (let e : l .bank - 1 + 1 ≡ l .bank + 1 - 1 = omega (arith, l .inv .0) in e),
-    )
+    let test : ℕ → Bool = λ (d : ℕ). judge (suc d) in
+    let done : l .bank - 1 + 1 ≡ l .bank + 1 - 1 = omega (arith, l .inv .0) in
+    let more = below-more test (l .bank - 1) (l .inv .4) (here ∙ ap judge next) ∙ ap (someBelow test) done in
+    (search needs, search needs, l .inv .2, l .inv .3, more)
 
 returns-2 : tie.Need-returns-2 Inv-loop μ-loop
 unfolding othersUnsound
 returns-2 c =
-    let a = c .before .before .before .before .before .before .before .before .before .args in
     let l = c .before .loop in
+    let a = begun (c .before) .args in
     let all : l .bank - 1 ≡ a .s .b - 1 = omega (arith, c .loop-test .left, l .inv .1, l .inv .3) in
-    l .inv .4 ∙ ap (someBank (unsound (a .s) (a .control .spill) (a .control .acts) (a .counts .now))) all
+    l .inv .4 ∙ ap (someBelow (unsound (a .s) (a .control .spill) (a .control .acts) (a .counts .now))) all
 
 pub others-unsound-spec : {M : Type 1} → statement M
 others-unsound-spec =
@@ -122,21 +87,21 @@ others-unsound-spec =
     Inv-loop
     μ-loop
     returns
-    cast-k
-    cast-b
+    (λ c. search needs)
+    (λ c. search needs)
     loop-holds
-    mul-from
-    add-to
-    mul-tracker-unsound
-    array-read-tracker-unsound
-    mul-tracker-unsound-2
-    array-read-tracker-unsound-2
-    mul-tracker-unsound-3
-    sub-tracker-unsound
-    part-tracker-unsound-start
-    part-tracker-unsound-end
-    tracker-unsound-requires
-    add-bank
-    loop-less
+    (λ c. omega (arith, room c))
+    (λ c. omega (arith, room c))
+    (λ c. search needs)
+    (λ c. search needs)
+    (λ c. search needs)
+    (λ c. search needs)
+    (λ c. omega (arith, room c))
+    (λ c. omega (arith, room c))
+    (λ c. omega (arith, room c))
+    (λ c. omega (arith, room c))
+    (λ c κs. search needs)
+    (λ c. search needs)
+    (λ c. search needs)
     loop-again
     returns-2)

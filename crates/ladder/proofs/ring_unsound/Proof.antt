@@ -1,8 +1,8 @@
--- `ring_unsound`: the tests are the definition's. Assumes nothing.
+-- `ring_unsound` makes the definition's tests. Assumes nothing.
+use mathlib.Core.Path.{refl}
 use Rattle.engine.specs.Ladder.{ringUnsound}
 use Rattle.ladder.proofs.ring_unsound.Statement.{statement}
 use Rattle.ladder.proofs.ring_unsound.Tie as tie
-use mathlib.Core.Path.{refl}
 
 returns : tie.Need-returns
 unfolding ringUnsound

@@ -1,54 +1,62 @@
--- `look::inspect_part`: nothing where the number is not 0, else the row's part. Assumes nothing.
-use Rattle.engine.specs.State.{stateOf}
+-- `inspect_part`: nothing where the number is not 0, else the row's part. Assumes nothing.
+use Rattle.engine.specs.State.{State, stateOf}
 use Rattle.engine.proofs.Parts.{row-fits, part-inside}
 use Rattle.look.proofs.Serves.{part-none, part-row}
 use borrow.Author.Needs.{needs}
 use Rattle.look.proofs.inspect_part.Statement.{statement}
 use Rattle.look.proofs.inspect_part.Tie as tie
 
-inspect-number-requires : tie.Need-inspect-number-requires
-inspect-number-requires c κs = search needs
+-- ---- the places that the needs look back to
 
-slice-aggregate-result : tie.Need-slice-aggregate-result
-slice-aggregate-result c = search needs
+abbrev begun : tie.After-inspect-number → tie.Start
+begun n = n .before .before .before .before .before .before
+
+abbrev accepted : tie.After-place-of → tie.Else1
+accepted p = p .before
+
+-- what is lent
+abbrev lent : tie.Start → State
+lent b =
+    let a = b .args in
+    stateOf (a .store .now) (a .forward .now) (a .reverse .now) (a .rows .now) (a .counts .now) (a .control)
+
+-- ---- the needs
 
 returns : tie.Need-returns
 returns c =
-    let a = c .before .before .before .before .before .before .before .before .args in
-    let σ = stateOf (a .store .now) (a .forward .now) (a .reverse .now) (a .rows .now) (a .counts .now) (a .control) in
-    part-none (a .s) σ (a .row) (c .before .before .inspect-number .result) (c .before .before .inspect-number .ensures) (c .before .if1 .taken)
+    let n = c .before .before in
+    let b = begun n in
+    part-none (b .args .s) (lent b) (b .args .row) _ (n .inspect-number .ensures) (c .before .if1 .taken)
 
 place-of-requires : tie.Need-place-of-requires
 place-of-requires c κs =
-    let a = c .before .before .before .before .before .before .before .args in
-    let σ = stateOf (a .store .now) (a .forward .now) (a .reverse .now) (a .rows .now) (a .counts .now) (a .control) in
-    row-fits (a .s) σ (a .row) (c .before .inspect-number .result) (c .before .inspect-number .ensures) (c .if1 .left)
-
-cast-row-part : tie.Need-cast-row-part
-cast-row-part c = search needs
+    let n = c .before in
+    let b = begun n in
+    row-fits (b .args .s) (lent b) (b .args .row) _ (n .inspect-number .ensures) (c .if1 .left)
 
 row-part-requires : tie.Need-row-part-requires
 row-part-requires c κs =
-    let a = c .before .before .before .before .before .before .before .before .before .args in
-    let σ = stateOf (a .store .now) (a .forward .now) (a .reverse .now) (a .rows .now) (a .counts .now) (a .control) in
-    part-inside (a .s) σ (a .row) (c .before .before .before .inspect-number .result) (c .before .before .before .inspect-number .ensures) (c .before .before .if1 .left)
-    (c .before .place-of .result) (c .before .place-of .ensures)
+    let p = c .before in
+    let e = accepted p in
+    let b = begun (e .before) in
+    part-inside (b .args .s) (lent b) (b .args .row) _ (e .before .inspect-number .ensures) (e .if1 .left) _ (p .place-of .ensures)
 
 returns-2 : tie.Need-returns-2
 returns-2 c =
-    let a = c .before .before .before .before .before .before .before .before .before .before .args in
-    let σ = stateOf (a .store .now) (a .forward .now) (a .reverse .now) (a .rows .now) (a .counts .now) (a .control) in
-    part-row (a .s) σ (a .row) (c .before .before .before .before .inspect-number .result) (c .before .before .before .before .inspect-number .ensures)
-    (c .before .before .before .if1 .left) (c .before .before .place-of .result) (c .before .before .place-of .ensures) _ (c .row-part .ensures)
+    let p = c .before .before in
+    let e = accepted p in
+    let b = begun (e .before) in
+    part-row (b .args .s) (lent b) (b .args .row) _ (e .before .inspect-number .ensures) (e .if1 .left) _ (p .place-of .ensures)
+    _ (c .row-part .ensures)
 
 pub inspect-part-spec : {M : Type 1} → statement M
 inspect-part-spec =
     tie.close
     (tie.spec
-    inspect-number-requires
-    slice-aggregate-result
+    (λ c κs. search needs)
+    (λ c. search needs)
     returns
     place-of-requires
-    cast-row-part
+    (λ c. search needs)
     row-part-requires
     returns-2)

@@ -1,4 +1,4 @@
--- `seek::least` meets its contract: its test is the contract's. Assumes nothing.
+-- `least`: its test is the contract's. Assumes nothing.
 use borrow.Author.Tests.{lt-ltb, le-ltb}
 use Rattle.seek.proofs.least.Statement.{statement}
 use Rattle.seek.proofs.least.Tie as tie

@@ -1,9 +1,19 @@
--- `seek::lowest_but` meets its contract: where the lowest entry is the one left out, the next counts. Assumes nothing.
+-- `lowest_but`: where the lowest entry is the one left out, the next counts. Assumes nothing.
 use mathlib.Core.Path.{_∙_}
 use borrow.Author.Needs.{needs}
 use Rattle.seek.proofs.LeftOut.{lowest-beside, lowest-past, lowest-next}
 use Rattle.seek.proofs.lowest_but.Statement.{statement}
 use Rattle.seek.proofs.lowest_but.Tie as tie
+
+-- ---- the places that the needs look back to
+
+abbrev begun : tie.After-index-from → tie.Start
+begun i = i .before .before
+
+abbrev found : tie.After-index-from2 → tie.After-index-from
+found c = c .before .before .before
+
+-- ---- the needs
 
 index-from-requires : tie.Need-index-from-requires
 index-from-requires c κs = search needs
@@ -16,20 +26,19 @@ index-from-requires-2 c κs = search needs
 
 returns : tie.Need-returns
 returns c =
-    let call = c .before .before .before in
+    let i = found c in
     c .index-from2 .ensures
-    ∙ lowest-next _ _ _ _ _ (call .before .before .pre .1) (call .index-from .ensures) (c .before .before .if1 .taken)
-    (c .before .if2 .taken)
+    ∙ lowest-next _ _ _ _ _ (begun i .pre .1) (i .index-from .ensures) (c .before .before .if1 .taken) (c .before .if2 .taken)
 
 returns-2 : tie.Need-returns-2
 returns-2 c =
-    let call = c .before .before in
-    lowest-past _ _ _ _ _ (call .before .before .pre .1) (call .index-from .ensures) (c .before .if1 .taken) (c .if2 .left)
+    let i = c .before .before in
+    lowest-past _ _ _ _ _ (begun i .pre .1) (i .index-from .ensures) (c .before .if1 .taken) (c .if2 .left)
 
 returns-3 : tie.Need-returns-3
 returns-3 c =
-    let call = c .before in
-    lowest-beside _ _ _ _ _ (call .before .before .pre .1) (call .index-from .ensures) (c .if1 .left)
+    let i = c .before in
+    lowest-beside _ _ _ _ _ (begun i .pre .1) (i .index-from .ensures) (c .if1 .left)
 
 pub lowest-but-spec : {M : Type 1} → statement M
 lowest-but-spec =

@@ -1,4 +1,4 @@
--- `seek::mark_worn` meets its contract. Invariant: the marks tell of the banks that are done. Assumes nothing.
+-- `mark_worn`: the marks tell of the banks that are done, at each turn of the loop. Assumes nothing.
 use Prim.Native.Nat.{_-_}
 use native.Mathlib.Omega.{arith}
 use mathlib.Core.Path.{sym, ap, _∙_}
@@ -15,39 +15,51 @@ Inv-loop s changed rows counts marks₀ all bank₀ marks bank = MarkedBelow s c
 abbrev μ-loop : tie.MeasureT-loop
 μ-loop s changed rows counts marks₀ all bank₀ marks bank = s .b - bank
 
+-- ---- the places that the needs look back to
+
+abbrev begun : tie.After-struct-known Inv-loop μ-loop → tie.Start Inv-loop μ-loop
+begun e = e .before .before .before .before
+
+abbrev begun-loop : tie.At-loop Inv-loop μ-loop → tie.Start Inv-loop μ-loop
+begun-loop l = begun (l .before)
+
+abbrev turn : tie.After-mark-bank-arg Inv-loop μ-loop → tie.At-loop Inv-loop μ-loop
+turn m = m .before .before
+
+-- ---- the needs
+
 cast-all : tie.Need-cast-all Inv-loop μ-loop
 cast-all c = search needs
 
 loop-holds : tie.Need-loop-holds Inv-loop μ-loop
-loop-holds c =
-    let p = c .before .before .before .before .pre in
-    below-none (p .0) (p .1)
+loop-holds c = let p = begun c .pre in below-none (p .0) (p .1)
 
 mark-bank-requires : tie.Need-mark-bank-requires Inv-loop μ-loop
 mark-bank-requires c κs =
-    let p = c .before .before .before .before .before .before .before .pre in
-    let m = c .before .before .loop .inv in
+    let p = begun-loop (turn c) .pre in
+    let m = turn c .loop .inv in
     (p .0, omega (arith, p .0 .some-bank), omega (arith, m .long, p .0 .slots-few), λ s b e. m .ahead s b (omega arith))
 
 add-bank : tie.Need-add-bank Inv-loop μ-loop
-add-bank c = omega arith
+add-bank c = search needs
 
 loop-less : tie.Need-loop-less Inv-loop μ-loop
-loop-less c = omega arith
+loop-less c = search needs
 
 loop-again : tie.Need-loop-again Inv-loop μ-loop
 loop-again c =
     let call = c .before .before in
-    let p = call .before .before .before .before .before .before .before .before .pre in
-    below-more (p .0) (omega (arith, p .0 .some-bank)) (call .before .before .before .loop .inv) (call .mark-bank .ensures)
+    let t = turn (call .before) in
+    let p = begun-loop t .pre in
+    below-more (p .0) (omega (arith, p .0 .some-bank)) (t .loop .inv) (call .mark-bank .ensures)
 
 same-length : tie.Need-same-length Inv-loop μ-loop
 same-length c =
     c .before .loop .inv .long
-    ∙ sym (ap length (c .before .before .before .before .before .before .pre .1) ∙ length-replicate 5500 false)
+    ∙ sym (ap length (begun-loop (c .before) .pre .1) ∙ length-replicate 5500 false)
 
 returns : tie.Need-returns Inv-loop μ-loop
-returns c = below-all (c .before .before .before .before .before .before .pre .0) (c .before .loop .inv) (c .loop-test .left)
+returns c = below-all (begun-loop (c .before) .pre .0) (c .before .loop .inv) (c .loop-test .left)
 
 pub mark-worn-spec : {M : Type 1} → statement M
 mark-worn-spec =

@@ -1,4 +1,4 @@
--- `seek::skipped` meets its contract: the first slots tell all, or all are looked at. Assumes nothing.
+-- `skipped`: the first 16 slots tell all, or all are looked at. Assumes nothing.
 use borrow.Author.Needs.{needs}
 use Rattle.seek.proofs.Turns.{first-tell}
 use Rattle.seek.proofs.skipped.Statement.{statement}
@@ -6,6 +6,9 @@ use Rattle.seek.proofs.skipped.Tie as tie
 
 sub-most : tie.Need-sub-most
 sub-most c = search needs
+
+cast-t10 : tie.Need-cast-t10
+cast-t10 c = search needs
 
 least-requires : tie.Need-least-requires
 least-requires c κs = search needs
@@ -21,13 +24,14 @@ skipped-by-marking-requires : tie.Need-skipped-by-marking-requires
 skipped-by-marking-requires c κs = search needs
 
 returns-2 : tie.Need-returns-2
-returns-2 c = c .skipped-by-marking .ensures
+returns-2 c = search needs
 
 pub skipped-spec : {M : Type 1} → statement M
 skipped-spec =
     tie.close
     (tie.spec
     sub-most
+    cast-t10
     least-requires
     skipped-by-scan-requires
     returns

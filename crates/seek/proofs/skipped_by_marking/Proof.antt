@@ -1,4 +1,4 @@
--- `seek::skipped_by_marking` meets its contract: a slot's mark answers as the test does. Assumes nothing.
+-- `skipped_by_marking`: a slot's mark answers as the test does. Assumes nothing.
 use native.Mathlib.Omega.{arith}
 use mathlib.Core.Path.{_∙_}
 use borrow.Author.Needs.{needs}

@@ -1,4 +1,4 @@
--- `seek::skipped_by_marks` meets its contract. Invariant: n slots were skipped, and `slot` is next. Assumes nothing.
+-- `skipped_by_marks`: n slots were skipped, and slot `at` is next, at each turn of the loop. Assumes nothing.
 use Prim.Native.Nat.{_-_}
 use native.Mathlib.Omega.{arith}
 use borrow.Author.Tests.{not-true, not-false}
@@ -9,40 +9,50 @@ use Rattle.seek.proofs.skipped_by_marks.Statement.{statement}
 use Rattle.seek.proofs.skipped_by_marks.Tie as tie
 
 abbrev Inv-loop : tie.InvT-loop
-Inv-loop s entry from most marks slot₀ n₀ slot n = Turned (skipsMarked (entry .0) marks) (s .q) most from slot n
+Inv-loop most marks q own at₀ n₀ at n = Turned (skipsMarked own marks) q most at₀ at n
 
 abbrev μ-loop : tie.MeasureT-loop
-μ-loop s entry from most marks slot₀ n₀ slot n = most - n
+μ-loop most marks q own at₀ n₀ at n = most - n
 
-loop-holds : tie.Need-loop-holds Inv-loop μ-loop
-loop-holds c = turned-none (omega arith)
+-- ---- the turn whose test of a slot the needs look back to
+
+abbrev turn : tie.After-shared-slice-known2 Inv-loop μ-loop → tie.In-loop Inv-loop μ-loop
+turn t = t .before
+
+-- ---- the needs
+
+cast-q : tie.Need-cast-q Inv-loop μ-loop
+cast-q c = search needs
+
+cast-own : tie.Need-cast-own Inv-loop μ-loop
+cast-own c = search needs
 
 cast-at : tie.Need-cast-at Inv-loop μ-loop
 cast-at c = search needs
 
-cast-if1 : tie.Need-cast-if1 Inv-loop μ-loop
-cast-if1 c = search needs
+loop-holds : tie.Need-loop-holds Inv-loop μ-loop
+loop-holds c = turned-none (omega arith)
 
 shared-slice-read-if1 : tie.Need-shared-slice-read-if1 Inv-loop μ-loop
-shared-slice-read-if1 c = omega arith
+shared-slice-read-if1 c = search needs
 
 returns : tie.Need-returns Inv-loop μ-loop
-returns c = turned-free (c .before .before .before .before .loop .inv) (not-true _ (c .if1 .taken))
+returns c = turned-free (turn (c .before) .before .loop .inv) (not-true _ (c .if1 .taken))
 
-slot-after-requires : tie.Need-slot-after-requires Inv-loop μ-loop
-slot-after-requires c κs = search needs
+index-after-requires : tie.Need-index-after-requires Inv-loop μ-loop
+index-after-requires c κs = search needs
 
 add-n : tie.Need-add-n Inv-loop μ-loop
 add-n c = search needs
 
 loop-less : tie.Need-loop-less Inv-loop μ-loop
-loop-less c = omega arith
+loop-less c = search needs
 
 loop-again : tie.Need-loop-again Inv-loop μ-loop
 loop-again c =
-    rw (c .slot-after .ensures)
-    (turned-more (c .before .before .before .before .before .loop .inv) (c .before .before .before .before .loop-test .taken)
-    (not-false _ (c .before .if1 .left)))
+    let t = turn (c .before .before) in
+    rw (c .index-after .ensures)
+    (turned-more (t .before .loop .inv) (t .loop-test .taken) (not-false _ (c .before .if1 .left)))
 
 returns-2 : tie.Need-returns-2 Inv-loop μ-loop
 returns-2 c = turned-all (c .before .loop .inv) (c .loop-test .left)
@@ -53,12 +63,13 @@ skipped-by-marks-spec =
     (tie.spec
     Inv-loop
     μ-loop
-    loop-holds
+    cast-q
+    cast-own
     cast-at
-    cast-if1
+    loop-holds
     shared-slice-read-if1
     returns
-    slot-after-requires
+    index-after-requires
     add-n
     loop-less
     loop-again

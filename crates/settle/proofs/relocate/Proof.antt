@@ -1,129 +1,144 @@
--- `relocate`: the slot is emptied, the row copied, the entries written. Assumes nothing.
-use Prim.Native.Nat.{ℕ, _+_, _*_}
-use mathlib.Core.Path.{_≡_, refl, ap, _∙_}
+-- `relocate` empties the slot, copies the row and writes the entries. Assumes nothing.
+use Prim.Native.Nat.{ℕ, _+_, _*_, _<_, _≤_}
+use mathlib.Core.Path.{_≡_, refl, _∙_}
 use native.Mathlib.Omega.{arith}
 use mathlib.Core.List.{List}
-use lib.ListN.{length}
-use Rattle.row_layout.specs.Bytes.{copied}
-use Rattle.geometry.specs.declared.ForwardEntry.{ForwardEntry}
-use Rattle.geometry.specs.declared.ReverseEntry.{ReverseEntry}
+use lib.ListN.{length, length-set}
 use Rattle.conditions.proofs.Facts.{ranges-facts}
 use Rattle.settle.proofs.Settles.{entry-within, copy-ready, copy-left, sent-long, entered}
 use borrow.Author.Needs.{needs}
 use Rattle.settle.proofs.relocate.Statement.{statement}
 use Rattle.settle.proofs.relocate.Tie as tie
 
-send-home-requires : tie.Need-send-home-requires
-send-home-requires c κs = c .before .before .before .before .before .pre .sendable
+-- ---- the places that the needs look back to
 
-slot-row-requires : tie.Need-slot-row-requires
-slot-row-requires c κs = search needs
+-- the slot is emptied
+abbrev begun : tie.After-send-home → tie.Start
+begun h = h .before .before .before .before .before .before .before .before
 
-cast-copy-row : tie.Need-cast-copy-row
-cast-copy-row c = search needs
+-- the target is known
+abbrev emptied : tie.After-slot-row → tie.After-send-home
+emptied t = t .before .before .before .before .before .before .before .before
 
--- ---- once the row that slot d held is sent home
-module _ (p : tie.After-send-home) where
-  store-long : let s = p .before .before .before .before .before .before .args .s in length (p .send-home .last .1 .1 .1 .0) ≡ (s .n + s .q) * s .w
+-- the row is copied, and its old slot is left
+abbrev moved : tie.After-leave → tie.After-copy-row
+moved l = l .before .before .before .before .before
+
+-- the entry of the slot is known
+abbrev gone : tie.After-of-row → tie.After-leave
+gone r = r .before .before .before .before .before
+
+-- the entry of the row is known
+abbrev held : tie.After-of-slot → tie.After-of-row
+held e = e .before .before
+
+-- both are written
+abbrev written : tie.After-struct-known7 → tie.After-of-slot
+written c = c .before .before .before .before
+
+-- from the entries back
+abbrev emptied-then : tie.After-leave → tie.After-send-home
+emptied-then l = emptied (moved l .before)
+
+abbrev start : tie.After-leave → tie.Start
+start l = begun (emptied-then l)
+
+-- ---- once the slot is emptied
+module _ (h : tie.After-send-home) where
+  abbrev store : List ℕ
+  store = h .send-home .last .1 .1 .1 .0
+
+  store-long : let s = begun h .args .s in length store ≡ (s .n + s .q) * s .w
   store-long =
-      let a = p .before .before .before .before .before .before .args in
-      let q = p .before .before .before .before .before .before .pre in
-      ap length (p .send-home .ensures .0) ∙ sent-long (a .s) (a .d .0) (a .held .0) (a .store .now) (a .forward .now) (q .sendable)
+      let b = begun h in
+      let a = b .args in
+      sent-long (a .s) (a .v .d .0) (a .v .held .0) (a .store .now) (a .forward .now) (b .pre .sendable) (h .send-home .ensures .0)
+
+  abbrev forward : List ℕ
+  forward = h .send-home .last .1 .1 .1 .1 .0
+
+  forward-kept : length forward ≡ length (begun h .args .forward .now)
+  forward-kept = h .send-home .kept .1 .1 .1 .1 .0
+
+-- ---- the needs
 
 copy-row-requires : tie.Need-copy-row-requires
 copy-row-requires c κs =
-    let p = c .before .before .before .before .before .before .before in
-    let a = p .before .before .before .before .before .before .args in
-    let q = p .before .before .before .before .before .before .pre in
-    copy-ready (a .s) (p .send-home .last .1 .1 .1 .0) (store-long p) (a .place .0) (a .s .n + a .d .0) (q .place-in) (omega (arith, q .sendable .slot-in)) (q .apart) (a .place)
-    (c .before .before .slot-row .result) refl (c .before .before .slot-row .ensures)
+    let h = emptied c in
+    let b = begun h in
+    copy-ready refl (c .slot-row .ensures) (b .args .s) (store h) (store-long h)
+    (b .pre .place-in) (omega (arith, b .pre .sendable .slot-in)) (b .pre .apart)
 
 leave-requires : tie.Need-leave-requires
 leave-requires c κs =
-    let p = c .before .before .before .before .before .before .before .before .before .before .before .before .before .before .before .before .before in
-    entry-within (p .args .reverse .now) (p .pre .reverse-long) (p .pre .entry-in)
-
-cast-to : tie.Need-cast-to
-cast-to c = search needs
-
-of-row-requires : tie.Need-of-row-requires
-of-row-requires c κs = search needs
-
-mul-reverse : tie.Need-mul-reverse
-mul-reverse c = search needs
+    let b = begun (emptied (c .before .before .before .before .before)) in
+    entry-within (b .args .reverse .now) (b .pre .reverse-long) (b .pre .entry-in)
 
 slice-write-reverse : tie.Need-slice-write-reverse
-slice-write-reverse c = search needs
-
-cast-at : tie.Need-cast-at
-cast-at c = search needs
-
-of-slot-requires : tie.Need-of-slot-requires
-of-slot-requires c κs = search needs
-
-mul-forward : tie.Need-mul-forward
-mul-forward c = search needs
+slice-write-reverse c =
+    let l = gone c in
+    let b = start l in
+    omega (arith, l .leave .kept .0, b .pre .reverse-long, b .pre .sendable .slot-in)
 
 slice-write-forward : tie.Need-slice-write-forward
 slice-write-forward c =
-    let q = c .before .before .before .before .before .before .before .before .before .before .before .before .before .before .before .before .before .before .before .before .before .before .before .before .pre in
-    omega (arith, q .sendable .forward-long, q .row-in)
+    let l = gone (held c) in
+    let b = start l in
+    omega (arith, forward-kept (emptied-then l), b .pre .sendable .forward-long, b .pre .row-in)
 
-cast-t29 : tie.Need-cast-t29
-cast-t29 c = search needs
+-- there is a slot, and `passed` fits
+slot-in : (e : tie.After-of-slot) → let b = start (gone (held e)) in b .args .v .d .0 < b .args .s .q
+slot-in e = start (gone (held e)) .pre .sendable .slot-in
 
-add-t30 : tie.Need-add-t30
-add-t30 c = search needs
-
-rem-t31 : tie.Need-rem-t31
-rem-t31 c = omega (arith, c .before .before .before .before .before .before .before .before .before .before .before .before .before .before .before .before .before .before .before .before .before .before .before .before .before .before .pre .sendable .slot-in)
-
-add-t32 : tie.Need-add-t32
-add-t32 c =
-    let p = c .before .before .before .before .before .before .before .before .before .before .before .before .before .before .before .before .before .before .before .before .before .before .before .before .before .before .before in
-    let R = ranges-facts (p .args .s) (p .pre .sendable .ranges) in
-    omega (arith, p .pre .room, R .q-high)
+passed-small : (e : tie.After-of-slot) → let a = start (gone (held e)) .args in a .ring .passed + a .v .up ≤ 5500
+passed-small e =
+    let b = start (gone (held e)) in
+    let R = ranges-facts (b .args .s) (b .pre .sendable .ranges) in
+    omega (arith, b .pre .room, R .q-high)
 
 same-length : tie.Need-same-length
-same-length c = search needs
+same-length c =
+    let k = moved (gone (held (written c))) in
+    k .copy-row .kept .0 ∙ emptied (k .before) .send-home .kept .1 .1 .1 .0
 
 same-length-2 : tie.Need-same-length-2
-same-length-2 c = search needs
+same-length-2 c = simp length-set (forward-kept (emptied-then (gone (held (written c)))))
 
 same-length-3 : tie.Need-same-length-3
-same-length-3 c = search needs
+same-length-3 c = simp length-set (gone (held (written c)) .leave .kept .0)
 
 returns : tie.Need-returns
 returns c =
-    let p = c .before .before .before .before .before .before .before .before .before .before .before .before .before .before .before .before .before .before .before .before .before in
-    let a = p .before .before .before .before .before .before .args in
-    entered (p .before .before .before .before .before .before .pre)
-    (copy-left (a .s .w) _ _ (a .place .0) (a .s .n + a .d .0) (a .place) (c .before .before .before .before .before .before .before .before .before .before .before .before .before .before .before .before .slot-row .result) refl (c .before .before .before .before .before .before .before .before .before .before .before .before .before .before .before .before .slot-row .ensures) (c .before .before .before .before .before .before .before .before .before .before .before .before .before .copy-row .ensures)
-    ∙ ap (λ (x : List ℕ). copied (a .s .w) x (a .place .0) (a .s .n + a .d .0)) (p .send-home .ensures .0))
-    (p .send-home .ensures .1) (c .before .before .before .before .before .before .before .before .before .leave .ensures)
-    (ap (λ (e : ForwardEntry). e .0) (c .before .before .before .of-slot .ensures)) (ap (λ (e : ReverseEntry). e .0) (c .before .before .before .before .before .of-row .ensures))
+    let e = written c in
+    let l = gone (held e) in
+    let k = moved l in
+    let h = emptied-then l in
+    let b = begun h in
+    entered (b .pre) (h .send-home .ensures .0)
+    (copy-left refl (k .before .slot-row .ensures) (b .args .s .w) (store h) (k .copy-row .ensures))
+    (h .send-home .ensures .1) (l .leave .ensures) (e .of-slot .ensures) (held e .of-row .ensures)
 
 pub relocate-spec : {M : Type 1} → statement M
 relocate-spec =
     tie.close
     (tie.spec
-    send-home-requires
-    slot-row-requires
-    cast-copy-row
+    (λ c κs. search needs)
+    (λ c. search needs)
+    (λ c κs. search needs)
     copy-row-requires
     leave-requires
-    cast-to
-    of-row-requires
-    mul-reverse
+    (λ c. search needs)
+    (λ c κs. search needs)
+    (λ c. search needs)
     slice-write-reverse
-    cast-at
-    of-slot-requires
-    mul-forward
+    (λ c. search needs)
+    (λ c κs. search needs)
+    (λ c. search needs)
     slice-write-forward
-    cast-t29
-    add-t30
-    rem-t31
-    add-t32
+    (λ c. search needs)
+    (λ c. search needs)
+    (λ c. omega (arith, slot-in (c .before .before)))
+    (λ c. omega (arith, passed-small (written c)))
     same-length
     same-length-2
     same-length-3

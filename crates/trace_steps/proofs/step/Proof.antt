@@ -1,4 +1,4 @@
--- `trace_steps::step` meets its contract: a tick or a read, and what it shows. Assumes nothing.
+-- `step`: a tick or a read, and what it shows. Assumes nothing.
 use mathlib.Core.Path.{refl}
 use Rattle.engine.specs.State.{State, stateOf}
 use Rattle.trace_steps.proofs.Blank.{Part, part}
@@ -15,8 +15,8 @@ ticked c = c .before .before .before .before .before .before
 abbrev begun-tick : tie.After-tick → tie.Start
 begun-tick t = t .before .before .before .before .before .before .before .before .before .before .before .before
 
-abbrev did-read : tie.After-line-of-access → tie.After-read-core
-did-read c = c .before .before .before .before .before .before .before .before .before .before .before .before .before .before
+abbrev did-read : tie.After-line-of-access → tie.After-read
+did-read c = c .before .before .before .before .before .before .before .before .before .before .before .before .before
 
 abbrev begun-read : tie.After-row-buffer → tie.Start
 begun-read p = p .before .before .before .before .before .before .before
@@ -35,21 +35,6 @@ row p = part (p .row-buffer .ensures) (begun-read p .pre)
 
 -- ---- the needs
 
-tick-requires : tie.Need-tick-requires
-tick-requires c κs = search needs
-
-bare-requires : tie.Need-bare-requires
-bare-requires c κs = search needs
-
-same-length : tie.Need-same-length
-same-length c = refl
-
-same-length-2 : tie.Need-same-length-2
-same-length-2 c = refl
-
-same-length-3 : tie.Need-same-length-3
-same-length-3 c = refl
-
 same-length-4 : tie.Need-same-length-4
 same-length-4 c = ticked c .tick .kept .1 .1 .1 .1 .1 .0
 
@@ -64,68 +49,54 @@ returns c =
     let is-tick = t .before .before .before .before .before .before .if1 .taken in
     tick-step (a .s) (σ b) (a .x) is-tick (c .bare .ensures) (t .tick .ensures)
 
-row-buffer-requires : tie.Need-row-buffer-requires
-row-buffer-requires c κs = search needs
-
-cast-w : tie.Need-cast-w
-cast-w c = search needs
-
 array-borrow-prefix-buffer : tie.Need-array-borrow-prefix-buffer
 array-borrow-prefix-buffer c = row (c .before) .fits
 
-slice-aggregate-read-core : tie.Need-slice-aggregate-read-core
-slice-aggregate-read-core c = row (c .before .before) .long
+slice-aggregate-read : tie.Need-slice-aggregate-read
+slice-aggregate-read c = row (c .before .before) .long
 
-read-core-requires : tie.Need-read-core-requires
-read-core-requires c κs = search needs
-
-line-of-access-requires : tie.Need-line-of-access-requires
-line-of-access-requires c κs = search needs
+record-after-requires : tie.Need-record-after-requires
+record-after-requires c κs = did-read c .read .ensures .0
 
 same-length-6 : tie.Need-same-length-6
-same-length-6 c = did-read c .read-core .kept .1 .1 .1 .1 .0
+same-length-6 c = did-read (c .before) .read .kept .1 .1 .1 .1 .0
 
 same-length-7 : tie.Need-same-length-7
-same-length-7 c = did-read c .read-core .kept .1 .1 .1 .1 .1 .0
+same-length-7 c = did-read (c .before) .read .kept .1 .1 .1 .1 .1 .0
 
 same-length-8 : tie.Need-same-length-8
-same-length-8 c = did-read c .read-core .kept .1 .1 .1 .1 .1 .1 .0
+same-length-8 c = did-read (c .before) .read .kept .1 .1 .1 .1 .1 .1 .0
 
 same-length-9 : tie.Need-same-length-9
-same-length-9 c = did-read c .read-core .kept .1 .1 .1 .1 .1 .1 .1 .0
+same-length-9 c = did-read (c .before) .read .kept .1 .1 .1 .1 .1 .1 .1 .0
 
 same-length-10 : tie.Need-same-length-10
-same-length-10 c = did-read c .read-core .kept .1 .1 .1 .1 .1 .1 .1 .1 .0
+same-length-10 c = did-read (c .before) .read .kept .1 .1 .1 .1 .1 .1 .1 .1 .0
 
 returns-2 : tie.Need-returns-2
 returns-2 c =
-    let t = did-read c in
+    let l = c .before in
+    let t = did-read l in
     let p = t .before .before .before .before .before .before .before .before in
     let b = begun-read p in
     let a = b .args in
-    read-step (a .s) (σ b) (a .x) (p .before .if1 .left) (c .line-of-access .ensures) (row p .blank) (t .read-core .ensures)
+    read-step (a .s) (σ b) (a .x) (t .read .result) (p .before .if1 .left) (l .line-of-access .ensures) (c .record-after .ensures)
+    (row p .blank) (t .read .ensures .1)
 
 pub step-spec : {M : Type 1} → statement M
 step-spec =
     tie.close
     (tie.spec
-    tick-requires
-    bare-requires
-    same-length
-    same-length-2
-    same-length-3
-    same-length-4
-    same-length-5
+    (λ c κs. search needs)
+    (λ c κs. search needs)
+    (λ c. refl) (λ c. refl) (λ c. refl) same-length-4 same-length-5
     returns
-    row-buffer-requires
-    cast-w
+    (λ c κs. search needs)
+    (λ c. search needs)
     array-borrow-prefix-buffer
-    slice-aggregate-read-core
-    read-core-requires
-    line-of-access-requires
-    same-length-6
-    same-length-7
-    same-length-8
-    same-length-9
-    same-length-10
+    slice-aggregate-read
+    (λ c κs. search needs)
+    (λ c κs. search needs)
+    record-after-requires
+    same-length-6 same-length-7 same-length-8 same-length-9 same-length-10
     returns-2)

@@ -1,4 +1,4 @@
--- `estimate`: the count of the entry, and one. Assumes nothing.
+-- `estimate` gives the count of the entry, and one. Assumes nothing.
 use native.Mathlib.Numerals.{add-one}
 use native.Mathlib.Omega.{arith}
 use borrow.Author.Tests.{lt-ltb, le-ltb}

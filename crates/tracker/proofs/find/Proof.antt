@@ -1,8 +1,10 @@
--- `find`: one law of `entryIn` for each of the two searches. Assumes nothing.
-use Prim.Native.Nat.{_≤_}
+-- `find`: each of the two searches is told by one law of `entryIn`. Assumes nothing.
+use Prim.Native.Nat.{ℕ, _+_, _*_, _≤_}
 use native.Mathlib.Omega.{arith}
 use mathlib.Core.Path.{_≡_, ap, _∙_}
+use mathlib.Core.List.{List}
 use lib.Dec.{eqb}
+use lib.ListN.{length}
 use Rattle.banks.specs.Portions.{portion}
 use Rattle.banks.proofs.Portions.{portion-lent, length-portion}
 use Rattle.scan.specs.Scan.{indexOf}
@@ -12,39 +14,35 @@ use borrow.Author.Needs.{needs}
 use Rattle.tracker.proofs.find.Statement.{statement}
 use Rattle.tracker.proofs.find.Tie as tie
 
--- ---- once the rows of the bank are searched
+-- ---- the places that the needs look back to
+
+abbrev begun : tie.After-index-of-row → tie.Start
+begun n = n .before .before .before .before .before .before
+
+abbrev unnamed : tie.After-index-of-count → tie.Else1
+unnamed n = n .before .before
+
+-- ---- the two searches, each of the bank's part of a table
+
+-- a search ends with the part
+found-most : (k c x : ℕ) (xs : List ℕ) → c * k + k ≤ length xs → indexOf x (portion k c xs) ≤ k
+found-most k c x xs fits = omega (arith, lowest-le (λ y. eqb y x) (portion k c xs), length-portion k c xs fits)
+
 module _ (n : tie.After-index-of-row) where
-  row-is : let a = n .before .before .before .before .before .args in n .index-of-row .result ≡ indexOf (a .place .0) (portion (a .k) (a .bank) (a .rows .now))
+  row-is : let a = begun n .args in
+      n .index-of-row .result ≡ indexOf (a .place .0) (portion (a .k) (a .bank .index) (a .rows .now))
   row-is =
-      let a = n .before .before .before .before .before .args in
-      n .index-of-row .ensures ∙ ap (indexOf (a .place .0)) (portion-lent (a .k) (a .bank) (a .rows .now))
+      let a = begun n .args in
+      n .index-of-row .ensures ∙ ap (indexOf (a .place .0)) (portion-lent (a .k) (a .bank .index) (a .rows .now))
 
-  row-most : n .index-of-row .result ≤ n .before .before .before .before .before .args .k
-  row-most =
-      let a = n .before .before .before .before .before .args in
-      omega (
-        arith,
-        row-is,
-        lowest-le (λ x. eqb x (a .place .0)) (portion (a .k) (a .bank) (a .rows .now)),
-        length-portion (a .k) (a .bank) (a .rows .now) (n .before .before .before .before .before .pre .1),
-      )
-
--- ---- once its counts are
 module _ (n : tie.After-index-of-count) where
-  count-is : let a = n .before .before .before .before .before .before .before .before .args in n .index-of-count .result ≡ indexOf (a .spill) (portion (a .k) (a .bank) (a .counts .now))
+  count-is : let a = begun (unnamed n .before) .args in
+      n .index-of-count .result ≡ indexOf (a .bank .spill) (portion (a .k) (a .bank .index) (a .counts .now))
   count-is =
-      let a = n .before .before .before .before .before .before .before .before .args in
-      n .index-of-count .ensures ∙ ap (indexOf (a .spill)) (portion-lent (a .k) (a .bank) (a .counts .now))
+      let a = begun (unnamed n .before) .args in
+      n .index-of-count .ensures ∙ ap (indexOf (a .bank .spill)) (portion-lent (a .k) (a .bank .index) (a .counts .now))
 
-  count-most : n .index-of-count .result ≤ n .before .before .before .before .before .before .before .before .args .k
-  count-most =
-      let a = n .before .before .before .before .before .before .before .before .args in
-      omega (
-        arith,
-        count-is,
-        lowest-le (λ x. eqb x (a .spill)) (portion (a .k) (a .bank) (a .counts .now)),
-        length-portion (a .k) (a .bank) (a .counts .now) (n .before .before .before .before .before .before .before .before .pre .2),
-      )
+-- ---- the needs
 
 mul-from : tie.Need-mul-from
 mul-from c = search needs
@@ -71,15 +69,18 @@ index-of-row-requires : tie.Need-index-of-row-requires
 index-of-row-requires c κs = search needs
 
 add-i : tie.Need-add-i
-add-i c = omega (arith, row-most c)
+add-i c =
+    let b = begun c in
+    let a = b .args in
+    omega (arith, row-is c, found-most (a .k) (a .bank .index) (a .place .0) (a .rows .now) (b .pre .in-rows))
 
 returns : tie.Need-returns
 returns c =
     let n = c .before in
-    let a = n .before .before .before .before .before .args in
-    let fits = n .before .before .before .before .before .pre in
-    entry-named (a .k) (a .bank) (a .rows .now) (a .counts .now) (fits .1) (fits .2) (a .place .0) (a .spill)
-    (n .index-of-row .result) (row-is n) (omega (arith, c .if1 .taken))
+    let b = begun n in
+    let a = b .args in
+    entry-named (a .k) (a .bank .index) (a .rows .now) (a .counts .now) (b .pre .in-rows) (b .pre .in-counts)
+    (a .place .0) (a .bank .spill) (n .index-of-row .result) (row-is n) (omega (arith, c .if1 .taken))
 
 mul-index-of-count : tie.Need-mul-index-of-count
 mul-index-of-count c = search needs
@@ -97,15 +98,19 @@ index-of-count-requires : tie.Need-index-of-count-requires
 index-of-count-requires c κs = search needs
 
 add-result : tie.Need-add-result
-add-result c = omega (arith, count-most c)
+add-result c =
+    let b = begun (unnamed c .before) in
+    let a = b .args in
+    omega (arith, count-is c, found-most (a .k) (a .bank .index) (a .bank .spill) (a .counts .now) (b .pre .in-counts))
 
 returns-2 : tie.Need-returns-2
 returns-2 c =
-    let n = c .before .before .before in
-    let a = n .before .before .before .before .before .args in
-    let fits = n .before .before .before .before .before .pre in
-    entry-free (a .k) (a .bank) (a .rows .now) (a .counts .now) (fits .1) (fits .2) (a .place .0) (a .spill)
-    (n .index-of-row .result) (row-is n) (c .index-of-count .result) (count-is c) (omega (arith, c .before .before .if1 .left))
+    let n = unnamed c .before in
+    let b = begun n in
+    let a = b .args in
+    entry-free (a .k) (a .bank .index) (a .rows .now) (a .counts .now) (b .pre .in-rows) (b .pre .in-counts)
+    (a .place .0) (a .bank .spill) (n .index-of-row .result) (row-is n) (c .index-of-count .result) (count-is c)
+    (omega (arith, unnamed c .if1 .left))
 
 pub find-spec : {M : Type 1} → statement M
 find-spec =

@@ -1,4 +1,4 @@
--- `follow`: the entry names the place, with the estimate for its count, where there is one. Assumes nothing.
+-- `follow`: where there is an estimate, the entry names the place and has it for its count. Assumes nothing.
 use native.Mathlib.Omega.{arith}
 use borrow.Author.Tests.{ne-eqb, eq-eqb}
 use Rattle.tracking.specs.Entry.{tableAfter}
@@ -6,20 +6,30 @@ use borrow.Author.Needs.{needs}
 use Rattle.tracker.proofs.follow.Statement.{statement}
 use Rattle.tracker.proofs.follow.Tie as tie
 
+-- ---- the places that the needs look back to
+
+abbrev changed : tie.After-struct-known2 → tie.Then1
+changed c = c .before
+
+abbrev begun : tie.Then1 → tie.Start
+begun t = t .before .before
+
+-- ---- the needs
+
 cast-rows : tie.Need-cast-rows
 cast-rows c = search needs
 
 mul-rows : tie.Need-mul-rows
-mul-rows c = omega (arith, c .before .before .pre .1 (c .before .if1 .taken))
+mul-rows c = omega (arith, begun (changed c) .pre .in-rows (changed c .if1 .taken))
 
 slice-write-rows : tie.Need-slice-write-rows
-slice-write-rows c = omega (arith, c .before .before .pre .1 (c .before .if1 .taken))
+slice-write-rows c = omega (arith, begun (changed c) .pre .in-rows (changed c .if1 .taken))
 
 mul-counts : tie.Need-mul-counts
-mul-counts c = omega (arith, c .before .before .pre .2 (c .before .if1 .taken))
+mul-counts c = omega (arith, begun (changed c) .pre .in-counts (changed c .if1 .taken))
 
 slice-write-counts : tie.Need-slice-write-counts
-slice-write-counts c = omega (arith, c .before .before .pre .2 (c .before .if1 .taken))
+slice-write-counts c = omega (arith, begun (changed c) .pre .in-counts (changed c .if1 .taken))
 
 same-length : tie.Need-same-length
 same-length c = search needs
@@ -29,11 +39,11 @@ same-length-2 c = search needs
 
 returns : tie.Need-returns
 unfolding tableAfter
-returns c = let none = ne-eqb (c .before .before .args .estimate) 0 (c .before .if1 .taken) in (rw none, rw none)
+returns c = let some = ne-eqb (begun (changed c) .args .u .estimate) 0 (changed c .if1 .taken) in (rw some, rw some)
 
 returns-2 : tie.Need-returns-2
 unfolding tableAfter
-returns-2 c = let none = eq-eqb (c .before .args .estimate) 0 (c .if1 .left) in (rw none, rw none)
+returns-2 c = let none = eq-eqb (c .before .before .args .u .estimate) 0 (c .if1 .left) in (rw none, rw none)
 
 pub follow-spec : {M : Type 1} → statement M
 follow-spec =

@@ -1,9 +1,9 @@
--- `destination`: the sum is the definition's. Assumes nothing.
+-- `destination` makes the definition's sum, which fits. Assumes nothing.
 use Prim.Native.Nat.{ℕ, _%_, _≤_}
 use mathlib.Core.Path.{refl}
 use native.Mathlib.Nat.{mod-lt}
 use native.Mathlib.Omega.{arith}
-use Rattle.engine.specs.Steps.{destinationFrom}
+use Rattle.engine.specs.Round.{destinationFrom}
 use mir.Val.{Fits}
 use mir.Syntax.{w16}
 use borrow.Author.Needs.{needs}
@@ -13,12 +13,6 @@ use Rattle.verdict.proofs.destination.Tie as tie
 -- whatever is divided, what is left by Q slots fits
 rest-fits : (x q : ℕ) → 1 ≤ q → q ≤ 5500 → Fits w16 (x % q)
 rest-fits x q some few = omega (arith, mod-lt x some)
-
-add-t4 : tie.Need-add-t4
-add-t4 c = search needs
-
-rem-t5 : tie.Need-rem-t5
-rem-t5 c = search needs
 
 cast-t6 : tie.Need-cast-t6
 cast-t6 c =
@@ -30,4 +24,4 @@ unfolding destinationFrom
 returns c = refl
 
 pub destination-spec : {M : Type 1} → statement M
-destination-spec = tie.close (tie.spec add-t4 rem-t5 cast-t6 returns)
+destination-spec = tie.close (tie.spec (λ c. search needs) (λ c. search needs) cast-t6 returns)

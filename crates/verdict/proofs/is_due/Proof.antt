@@ -1,4 +1,4 @@
--- `is_due`: an estimate below A is none or no multiple, and A is one. Assumes nothing.
+-- `is_due` tells that an estimate below A is none or no multiple, and that A is one. Assumes nothing.
 use mathlib.Core.Path.{sym, ap, _∙_}
 use native.Mathlib.Omega.{arith}
 use borrow.Author.Tests.{ne-eqb}
@@ -8,21 +8,22 @@ use borrow.Author.Needs.{needs}
 use Rattle.verdict.proofs.is_due.Statement.{statement}
 use Rattle.verdict.proofs.is_due.Tie as tie
 
+-- the estimate is not below A
+abbrev begun : tie.Else1 → tie.Start
+begun e = e .before .before
+
 returns : tie.Need-returns
 returns c = sym (due-below _ _ (c .if1 .taken))
 
 returns-2 : tie.Need-returns-2
 returns-2 c =
-    let a = c .before .before .before .before .args in
+    let a = begun (c .before .before) .args in
     sym (ap (isDue (a .s .a)) (c .if2 .taken) ∙ due-at (a .s .a) (omega arith))
-
-rem-result : tie.Need-rem-result
-rem-result c = search needs
 
 returns-3 : tie.Need-returns-3
 returns-3 c =
-    let a = c .before .before .before .before .before .args in
+    let a = begun (c .before .before .before) .args in
     simp (ne-eqb (a .estimate) 0 (λ z. omega arith))
 
 pub is-due-spec : {M : Type 1} → statement M
-is-due-spec = tie.close (tie.spec returns returns-2 rem-result returns-3)
+is-due-spec = tie.close (tie.spec returns returns-2 (λ c. search needs) returns-3)

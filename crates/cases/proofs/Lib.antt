@@ -1,2 +1,0 @@
--- The root of the proofs of `cases`.
-mod Lent

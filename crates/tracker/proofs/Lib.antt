@@ -1,0 +1,2 @@
+-- What the callers of the tracker need.
+pub mod Counts
