@@ -13,10 +13,10 @@ use Rattle.geometry.specs.declared.PhysicalRow.{PhysicalRow}
 use Rattle.geometry.specs.Numbering.{visible, slot, physical}
 use Rattle.geometry.specs.Entry.{forwardEntryOf}
 use Rattle.geometry.specs.Place.{placeBy}
-use Rattle.geometry.proofs.Cases.{lt?}
+use Rattle.basics.proofs.Cases.{lt?}
 use Rattle.banks.specs.declared.Bank.{Bank}
 use Rattle.banks.specs.Banks.{mostBanks, bankOf, bankWith}
-use Rattle.banks.proofs.Portions.{portion-fits}
+use Rattle.basics.proofs.Portions.{portion-fits}
 use Rattle.banks.proofs.Banks.{bank-in}
 use Rattle.tracking.specs.Track.{isDue}
 use Rattle.tracking.proofs.Due.{due-some}

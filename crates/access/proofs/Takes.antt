@@ -11,7 +11,7 @@ use Rattle.geometry.specs.declared.Settings.{Settings}
 use Rattle.geometry.specs.Entry.{empty}
 use Rattle.conditions.proofs.Facts.{Ranges, Exact, ranges-facts, lengths-facts}
 use Rattle.tracking.specs.Track.{isDue}
-use Rattle.row_layout.proofs.Laws.{row-before}
+use Rattle.basics.proofs.Portions.{portion-before}
 use Rattle.engine.specs.declared.Asked.{Asked}
 use Rattle.engine.specs.State.{State, Storage, ringOf, lengthsOf, forwardOf, reverseOf}
 use Rattle.engine.specs.Steps.{place, moves, skipped, destination, rise}
@@ -106,7 +106,7 @@ module _ {S : Settings} {σ : State} {a : Asked} {f : Found} {due : Bool} (T : T
 
   -- the row's place lies in the store
   pub place-inside : f .place .0 * S .w + S .w ≤ length (σ .store)
-  place-inside = rw (T .sought .found) (omega (arith, row-before (S .w) (place S σ row) (S .n + S .q) place-in, X .store))
+  place-inside = rw (T .sought .found) (omega (arith, portion-before (S .w) (place S σ row) (S .n + S .q) place-in, X .store))
 
   away : forwardOf σ row ≡ empty → place S σ row < S .n
   away at = rw (eq-eqb (forwardOf σ row) empty at) (A .reached .row-in)

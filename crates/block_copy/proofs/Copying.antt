@@ -8,8 +8,8 @@ use native.Mathlib.Omega.{arith}
 use native.Mathlib.Nat.{add-assoc, add-zero}
 use lib.ListN.{length, getD, take, drop, set, length-drop}
 use lib.Seq.{paste, paste-zero, paste-suc, length-paste, length-take-le, getD-take, getD-drop, take-take, take-add, take-append-le, drop-at, ext-getD}
-use Rattle.block_put.proofs.Pastes.{paste-out, paste-alike}
-use Rattle.block_put.proofs.Pasting.{Pasting, pasting-more, pasting-out}
+use Rattle.basics.proofs.Pastes.{paste-out, paste-alike}
+use Rattle.basics.proofs.Pasting.{Pasting, pasting-more, pasting-out}
 
 -- n elements from `from` on and n from `at` on do not overlap
 abbrev Apart : ℕ → ℕ → ℕ → Type 0

@@ -1,6 +1,6 @@
 -- The table of cases holds, by one test that antt computes. Assumes nothing.
 use mathlib.Core.Path.{refl}
-use Rattle.geometry.specs.Lists.{every}
+use Rattle.basics.specs.Lists.{every}
 use Rattle.sizing.specs.Sums.{leastSize, mostActivations, sizeRangesHold, activationRangesHold}
 use Rattle.number_text.specs.Numbers.{numbersFrom, readableFrom}
 use Rattle.trace_file.specs.Form.{hasSections, banksIn, traceIn, isEmptyTrace}

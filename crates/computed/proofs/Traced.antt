@@ -4,8 +4,8 @@ use mathlib.Core.List.{List}
 use Rattle.geometry.specs.declared.Settings.{Settings}
 use Rattle.conditions.specs.Conditions.{rangesHold, limitHolds, storeHolds, lengthsHold}
 use Rattle.scan.specs.Scan.{lowest, some}
-use Rattle.banks.specs.Portions.{portion, withPortion}
-use Rattle.geometry.specs.Ranges.{someBelow}
+use Rattle.basics.specs.Portions.{portion, withPortion}
+use Rattle.basics.specs.Ranges.{someBelow}
 use Rattle.banks.specs.Banks.{bankOf}
 use Rattle.tracking.specs.Track.{track}
 use Rattle.tracking.specs.Worn.{worn}

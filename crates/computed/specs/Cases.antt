@@ -8,7 +8,7 @@ use mathlib.Core.List.{List, [], _∷_, _++_, map}
 use lib.Dec.{eqb}
 use lib.ListN.{take, replicate}
 use Rattle.geometry.specs.declared.Settings.{Settings}
-use Rattle.geometry.specs.Lists.{every}
+use Rattle.basics.specs.Lists.{every}
 use Rattle.sizing.specs.declared.RefreshTimes.{RefreshTimes}
 use Rattle.size_table.specs.declared.SizePair.{SizePair}
 use Rattle.sizing.specs.Sums.{mostActivations}

@@ -5,9 +5,9 @@ use mathlib.Core.Bool.{true}
 use borrow.Author.Tests.{ltb-true, lt-ltb, eqb-true, eq-eqb}
 use Rattle.geometry.specs.declared.Settings.{Settings}
 use Rattle.geometry.specs.declared.Lengths.{Lengths}
-use Rattle.geometry.specs.Ranges.{inRange}
+use Rattle.basics.specs.Ranges.{inRange}
 use Rattle.conditions.specs.Conditions.{rangesHold, limitHolds, storeHolds, lengthsHold}
-use Rattle.geometry.proofs.Tests.{and-left, and-right, low, high}
+use Rattle.basics.proofs.Tests.{and-left, and-right, low, high}
 
 pub record Ranges (S : Settings) : Type 0 where
   pub n-low : 1 ≤ S .n

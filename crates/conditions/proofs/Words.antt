@@ -8,7 +8,7 @@ use lib.Dec.{eqb}
 use mir.Val.{Fits}
 use mir.Syntax.{w64}
 use borrow.Author.Tests.{eq-eqb, ne-eqb}
-use Rattle.geometry.proofs.Cases.{eq?}
+use Rattle.basics.proofs.Cases.{eq?}
 
 -- a 32-bit number times one that is at most 2 ^ 32
 pub product-fits : {x y : ℕ} → x ≤ 4294967295 → y ≤ 4294967296 → Fits w64 (x * y)

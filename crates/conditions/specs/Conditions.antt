@@ -5,7 +5,7 @@ use mathlib.Core.Bool.{Bool, _&&_}
 use lib.Dec.{ltb, eqb}
 use Rattle.geometry.specs.declared.Settings.{Settings}
 use Rattle.geometry.specs.declared.Lengths.{Lengths}
-use Rattle.geometry.specs.Ranges.{inRange}
+use Rattle.basics.specs.Ranges.{inRange}
 
 -- 'A | threshold | 1 to 65,535'
 abbrev pub thresholdInRange : ℕ → Bool

@@ -6,7 +6,7 @@ use native.Mathlib.Omega.{arith}
 use mathlib.Core.Path.{_≡_, refl, ap, _∙_}
 use mathlib.Core.Logic.{inl, inr, _≢_}
 use mathlib.Core.Bool.{Bool, true, false, cond}
-use Rattle.geometry.proofs.Cases.{split, eq?, lt?}
+use Rattle.basics.proofs.Cases.{split, eq?, lt?}
 use Rattle.engine.specs.Round.{skippedOf}
 use Rattle.engine.proofs.GoneBy.{goneBy, gone-head, gone-new, gone-other, next-in, Slide, slide-one, slide-more}
 use Rattle.engine.proofs.Skipping.{next-there}

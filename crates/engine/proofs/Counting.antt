@@ -8,7 +8,7 @@ use mathlib.Core.Logic.{_⊎_, inl, inr, _≢_}
 use mathlib.Core.Bool.{false}
 use Rattle.geometry.specs.declared.Settings.{Settings}
 use Rattle.geometry.specs.Entry.{empty}
-use Rattle.geometry.proofs.Cases.{eq?}
+use Rattle.basics.proofs.Cases.{eq?}
 use Rattle.banks.specs.Banks.{bankOf}
 use Rattle.tracking.proofs.Sums.{sumBy, total, quotients, sum-portion}
 use Rattle.tracking.proofs.Tracking.{one-if}

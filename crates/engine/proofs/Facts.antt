@@ -11,13 +11,13 @@ use borrow.Author.Tests.{ltb-true, ltb-false, leb-false, eqb-true, eqb-false, no
 use Rattle.geometry.specs.declared.Settings.{Settings}
 use Rattle.conditions.specs.Conditions.{rangesHold, limitHolds, lengthsHold}
 use Rattle.geometry.specs.Entry.{empty}
-use Rattle.geometry.proofs.Cases.{split}
+use Rattle.basics.proofs.Cases.{split}
 use Rattle.conditions.proofs.Facts.{Ranges, ranges-facts}
-use Rattle.banks.specs.Portions.{portion}
+use Rattle.basics.specs.Portions.{portion}
 use Rattle.banks.specs.Banks.{bankOf}
 use Rattle.banks.proofs.Banks.{bank-in}
-use Rattle.geometry.proofs.Tests.{and-left, and-right, or-left, or-right}
-use Rattle.geometry.proofs.Below.{none-below, fails-below}
+use Rattle.basics.proofs.Tests.{and-left, and-right, or-left, or-right}
+use Rattle.basics.proofs.Below.{none-below, fails-below}
 use Rattle.scan.specs.Scan.{some}
 use Rattle.scan.proofs.Scans.{some-none}
 use Rattle.engine.specs.declared.Asked.{Asked}

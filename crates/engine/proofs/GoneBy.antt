@@ -7,7 +7,7 @@ use mathlib.Core.Logic.{_⊎_, inl, inr, _≢_}
 use mathlib.Core.Bool.{Bool, true, false, cond, true≢false}
 use lib.Dec.{ltb, leb}
 use borrow.Author.Tests.{lt-ltb, le-ltb, le-leb, lt-leb}
-use Rattle.geometry.proofs.Cases.{eq?, lt?}
+use Rattle.basics.proofs.Cases.{eq?, lt?}
 
 -- slot s is one of the `passed` slots before `head`
 unfoldable pub goneBy : ℕ → ℕ → ℕ → ℕ → Bool

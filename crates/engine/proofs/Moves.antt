@@ -12,8 +12,8 @@ use borrow.Author.Tests.{eqb-true, eqb-false}
 use Rattle.geometry.specs.declared.Settings.{Settings}
 use Rattle.geometry.specs.Numbering.{visible, slot}
 use Rattle.geometry.specs.Entry.{empty}
-use Rattle.geometry.proofs.Cases.{split}
-use Rattle.geometry.proofs.Tests.{or-left}
+use Rattle.basics.proofs.Cases.{split}
+use Rattle.basics.proofs.Tests.{or-left}
 use Rattle.conditions.proofs.Facts.{Ranges, Exact}
 use Rattle.tracking.proofs.View.{tracks}
 use Rattle.row_layout.specs.Bytes.{copied}

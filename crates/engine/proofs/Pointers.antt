@@ -11,7 +11,7 @@ use lib.Seq.{getD-set-same, getD-set-other}
 use borrow.Author.Tests.{ne-eqb, eq-eqb}
 use Rattle.geometry.specs.declared.Settings.{Settings}
 use Rattle.geometry.specs.Entry.{empty}
-use Rattle.geometry.proofs.Cases.{split, eq?}
+use Rattle.basics.proofs.Cases.{split, eq?}
 use Rattle.conditions.proofs.Facts.{Ranges, Exact}
 use Rattle.engine.specs.State.{State, lengthsOf, forwardOf, reverseOf}
 use Rattle.engine.specs.Steps.{place, left}

@@ -5,7 +5,7 @@ use native.Mathlib.Omega.{arith}
 use mathlib.Core.Path.{_≡_, refl, sym, ap, _∙_}
 use mathlib.Core.Logic.{inl, inr}
 use mathlib.Core.Bool.{Bool, true, false}
-use Rattle.geometry.proofs.Cases.{split, lt?}
+use Rattle.basics.proofs.Cases.{split, lt?}
 use Rattle.engine.specs.Round.{skippedOf}
 use Rattle.engine.proofs.GoneBy.{next-in}
 

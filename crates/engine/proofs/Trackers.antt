@@ -11,9 +11,9 @@ use lib.Seq.{drop-at, getD-set-same, getD-set-other}
 use Rattle.geometry.specs.declared.Settings.{Settings}
 use Rattle.geometry.specs.Entry.{empty}
 use Rattle.conditions.proofs.Facts.{Ranges}
-use Rattle.banks.specs.Portions.{portion, withPortion}
+use Rattle.basics.specs.Portions.{portion, withPortion}
 use Rattle.banks.specs.Banks.{mostBanks, bankOf}
-use Rattle.banks.proofs.Portions.{portion-fits, length-portion, length-withPortion, portion-same, portion-other, portion-replicate}
+use Rattle.basics.proofs.Portions.{portion-fits, length-portion, length-withPortion, portion-same, portion-other, portion-replicate}
 use Rattle.banks.proofs.Banks.{bank-in, bank-itself}
 use Rattle.tracking.proofs.Entries.{track-long}
 use Rattle.tracking.proofs.Sums.{quotients, sum-portions}

@@ -9,7 +9,7 @@ use borrow.Author.Tests.{ne-eqb, eqb-true}
 use Rattle.geometry.specs.declared.Settings.{Settings}
 use Rattle.geometry.specs.Numbering.{slotRow}
 use Rattle.geometry.specs.Entry.{empty}
-use Rattle.geometry.proofs.Cases.{split}
+use Rattle.basics.proofs.Cases.{split}
 use Rattle.tracking.specs.Worn.{worn}
 use Rattle.tracking.proofs.View.{spill-below}
 use Rattle.tracking.proofs.Worn.{worn-estimate, due-worn}

@@ -12,9 +12,9 @@ use Rattle.geometry.specs.declared.Ring.{Ring}
 use Rattle.geometry.specs.declared.Lengths.{Lengths}
 use Rattle.conditions.specs.Conditions.{rangesHold, limitHolds, lengthsHold}
 use Rattle.geometry.specs.Entry.{empty}
-use Rattle.geometry.specs.Ranges.{someBelow}
+use Rattle.basics.specs.Ranges.{someBelow}
 use Rattle.scan.specs.Scan.{some}
-use Rattle.banks.specs.Portions.{portion}
+use Rattle.basics.specs.Portions.{portion}
 use Rattle.engine.specs.declared.Asked.{Asked}
 use Rattle.engine.specs.State.{Tables, forwardIn, reverseIn, State, lengthsOf, trackerAt, ringOf}
 use Rattle.engine.specs.Steps.{place, moves, destination, rise}

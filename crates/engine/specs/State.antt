@@ -10,7 +10,7 @@ use Rattle.geometry.specs.declared.Ring.{Ring}
 use Rattle.geometry.specs.declared.Lengths.{Lengths}
 use Rattle.geometry.specs.Entry.{empty}
 use Rattle.geometry.specs.Lent.{Slice, lengthsBy}
-use Rattle.banks.specs.Portions.{portion, withPortion}
+use Rattle.basics.specs.Portions.{portion, withPortion}
 use Rattle.banks.specs.Banks.{mostBanks, bankOf, withBank}
 
 -- the pointer tables, 'a forward table of N 16-bit numbers and a reverse table of Q 16-bit numbers'

@@ -3,23 +3,22 @@ use Prim.Native.Nat.{ℕ, _*_}
 use mathlib.Core.Path.{_≡_, refl, sym, _∙_}
 use mathlib.Core.Logic.{inl, inr, _≢_}
 use lib.Dec.{eqb}
-use lib.ListN.{take, drop}
 use borrow.Author.Tests.{eq-eqb, ne-eqb}
 use Rattle.geometry.specs.declared.Settings.{Settings}
 use Rattle.geometry.specs.declared.PhysicalRow.{PhysicalRow}
 use Rattle.geometry.specs.Numbering.{physical}
-use Rattle.geometry.proofs.Cases.{split}
+use Rattle.basics.proofs.Cases.{split}
 use Rattle.row_layout.specs.Bytes.{rowBytes}
 use Rattle.engine.specs.State.{State}
 use Rattle.engine.specs.Steps.{place}
 use Rattle.engine.specs.Ladder.{inspectNumber}
 use Rattle.engine.specs.Calls.{inspectPart}
 use Rattle.figures.specs.declared.Span.{Span}
-use Rattle.figures.specs.Span.{spanOf}
+use Rattle.figures.specs.Span.{spanOf, spanned}
 
 -- the part of the store that the span names is the part that inspect returns
 pub span-part : (S : Settings) (σ : State) (r : ℕ)
-    → take ((spanOf S σ r) .length) (drop ((spanOf S σ r) .start) (σ .store)) ≡ inspectPart S σ r
+    → spanned (spanOf S σ r) (σ .store) ≡ inspectPart S σ r
 unfolding spanOf inspectPart rowBytes
 span-part S σ r = elim (split (eqb (inspectNumber S σ r) 0)) [ inl e ↦ rw e refl | inr e ↦ rw e refl ]
 

@@ -7,14 +7,15 @@
 use Prim.Native.Nat.{ℕ}
 use mathlib.Core.Path.{_≡_}
 use mathlib.Core.List.{List, []}
+use denote.Ref.{RefT, now, ptr}
 use Rattle.geometry.specs.declared.Settings.{Settings}
 use Rattle.engine.specs.State.{State}
 use Rattle.engine.specs.Ladder as ladder
-use Rattle.engine.specs.Calls.{notedOf, setUp, Accessed, read, write, tick}
+use Rattle.engine.specs.Calls.{notedOf, setUp, Accessed, read, write, tick, inspectPart}
 use Rattle.figures.specs.declared.Outcome.{Outcome}
 use Rattle.figures.specs.declared.Span.{Span}
 use Rattle.figures.specs.Outcome.{outcomeOf}
-use Rattle.figures.specs.Span.{spanOf}
+use Rattle.figures.specs.Span.{spanOf, spanAddress}
 
 -- `aqua_set_up`
 abbrev pub SetUpPromise : Settings → State → State → ℕ → Type 0
@@ -43,3 +44,9 @@ InspectNumberPromise S lent row number = number ≡ ladder.inspectNumber S lent 
 -- `aqua_inspect_span`
 abbrev pub InspectSpanPromise : Settings → State → ℕ → Span → Type 0
 InspectSpanPromise S lent row span = span ≡ spanOf S lent row
+
+-- `inspect_part`, for Rattle; store, part: the lent store and what is returned. The part holds the row's bytes, and it lies where
+-- the span says
+abbrev pub InspectPartPromise : Settings → State → ℕ → RefT (List ℕ) → RefT (List ℕ) → Type 0
+InspectPartPromise S lent row store part =
+    (now part ≡ inspectPart S lent row) × (ptr part ≡ spanAddress (spanOf S lent row) (ptr store))

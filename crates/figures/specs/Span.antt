@@ -1,8 +1,10 @@
--- Where inspect's part lies in the store, for a C caller, who cannot take a slice.
+-- Where inspect's part lies in the store. A C caller, who cannot take a slice, is answered this.
 -- Assumes nothing.
-use Prim.Native.Nat.{ℕ, _*_}
+use Prim.Native.Nat.{ℕ, _+_, _*_}
 use mathlib.Core.Bool.{cond}
+use mathlib.Core.List.{List}
 use lib.Dec.{eqb}
+use lib.ListN.{take, drop}
 use Rattle.geometry.specs.declared.Settings.{Settings}
 use Rattle.engine.specs.State.{State}
 use Rattle.engine.specs.Steps.{place}
@@ -16,3 +18,11 @@ spanOf S σ r =
     cond (eqb (inspectNumber S σ r) 0)
     (record { start = place S σ r * S .w; length = S .w })
     (record { start = 0; length = 0 })
+
+-- the bytes of a store that a span names
+abbrev pub spanned : Span → List ℕ → List ℕ
+spanned span store = take (span .length) (drop (span .start) store)
+
+-- where a span begins in a store; an address is a block of memory and an offset in it
+abbrev pub spanAddress : Span → ℕ × ℕ → ℕ × ℕ
+spanAddress span store = (store .0, span .start + store .1)

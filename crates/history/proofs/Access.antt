@@ -8,7 +8,7 @@ use mathlib.Core.List.{List}
 use lib.ListN.{length}
 use Rattle.geometry.specs.declared.Settings.{Settings}
 use Rattle.geometry.specs.Numbering.{visible, slot}
-use Rattle.geometry.proofs.Cases.{lt?}
+use Rattle.basics.proofs.Cases.{lt?}
 use Rattle.conditions.proofs.Facts.{limit-fact}
 use Rattle.tracking.proofs.Sums.{quotients}
 use Rattle.tracking.proofs.Tracking.{one-if}

@@ -5,7 +5,7 @@ use mathlib.Core.Path.{_≡_, refl, sym, _∙_}
 use mathlib.Core.Logic.{inl, inr}
 use mathlib.Core.Bool.{Bool, true, false}
 use Rattle.geometry.specs.declared.Settings.{Settings}
-use Rattle.geometry.proofs.Cases.{lt?}
+use Rattle.basics.proofs.Cases.{lt?}
 use Rattle.tracking.proofs.View.{quotients-new}
 use Rattle.conditions.proofs.Facts.{ranges-facts, lengths-facts}
 use Rattle.engine.specs.State.{State, lengthsOf, trackerAt}

@@ -8,7 +8,7 @@ use lib.ListN.{length, getD-replicate}
 use borrow.Author.Tests.{eq-eqb, ne-eqb, lt-ltb, le-ltb, le-leb, lt-leb}
 use Rattle.geometry.specs.declared.Settings.{Settings}
 use Rattle.geometry.specs.Entry.{empty}
-use Rattle.geometry.proofs.Cases.{eq?, lt?}
+use Rattle.basics.proofs.Cases.{eq?, lt?}
 use Rattle.row_layout.specs.Bytes.{rowBytes, written}
 use Rattle.row_layout.proofs.Laws.{byteAt, length-rowBytes, rowBytes-at, written-in, written-beside, written-other}
 use Rattle.engine.specs.declared.Move.{Move}

@@ -8,7 +8,8 @@ use Rattle.geometry.specs.declared.Settings.{Settings}
 use Rattle.engine.specs.State.{State}
 use Rattle.engine.specs.Calls.{setUp}
 use Rattle.history.specs.Tally as tally
-use Rattle.history.specs.Run.{Access, Call, Answer, Event, step, run, eventOf, events, OfAccepted, reportOf, Each}
+use Rattle.basics.specs.Lists.{Each}
+use Rattle.history.specs.Run.{Access, Call, Answer, Event, step, run, eventOf, events, OfAccepted, reportOf}
 use Rattle.history.specs.Chain.{Idle, misfit, looks, Chain, end, call, idle, Claim, OfChains, OfLists}
 use Rattle.history.specs.Demand2.{Memory, remember}
 use Rattle.history.specs.Estimates.{Observed, observe}

@@ -10,9 +10,9 @@ use lib.Dec.{eqb}
 use borrow.Author.Tests.{ne-eqb, eq-eqb, eqb-false}
 use Rattle.geometry.specs.declared.Settings.{Settings}
 use Rattle.geometry.specs.Entry.{empty}
-use Rattle.geometry.proofs.Cases.{split}
-use Rattle.geometry.specs.Ranges.{someBelow}
-use Rattle.geometry.proofs.Below.{none-below, fails-below}
+use Rattle.basics.proofs.Cases.{split}
+use Rattle.basics.specs.Ranges.{someBelow}
+use Rattle.basics.proofs.Below.{none-below, fails-below}
 use Rattle.tracking.proofs.Tracking.{one-if}
 use Rattle.engine.specs.State.{State, forwardOf, reverseOf}
 use Rattle.engine.specs.Steps.{place}

@@ -1,6 +1,6 @@
 -- What an estimate tells of its place, after every list of calls. Assumes nothing.
-use Prim.Native.Nat.{ℕ, suc, _+_, _*_, _%_, _<_, _≤_}
-use native.Mathlib.Nat.{mul-le-mul-right}
+use Prim.Native.Nat.{ℕ, suc, _+_, _%_, _<_, _≤_}
+use native.Mathlib.Nat.{mod-eq-of-lt, mod-self}
 use native.Mathlib.Omega.{arith}
 use mathlib.Core.Path.{_≡_, refl, sym, _∙_, subst}
 use mathlib.Core.Logic.{_⊎_, inl, inr, _≢_}
@@ -10,8 +10,8 @@ use lib.Dec.{eqb}
 use borrow.Author.Tests.{eq-eqb, ne-eqb, eqb-true, eqb-false, not-true}
 use Rattle.geometry.specs.declared.Settings.{Settings}
 use Rattle.geometry.specs.Entry.{empty}
-use Rattle.geometry.proofs.Cases.{eq?}
-use Rattle.geometry.proofs.Tests.{and-left, and-right}
+use Rattle.basics.proofs.Cases.{eq?, lt?}
+use Rattle.basics.proofs.Tests.{and-left, and-right}
 use Rattle.conditions.proofs.Facts.{Ranges, limit-fact}
 use Rattle.tracking.specs.Track.{isDue}
 use Rattle.tracking.proofs.View.{estimate-new, spill-below}
@@ -33,48 +33,42 @@ use Rattle.history.specs.Estimates.{Observed, unobserved, observeAccess,
 use Rattle.history.proofs.Groups.{acceptedStep, refusedStep, ladder, storeBy, not-accepted, step-cases}
 use Rattle.history.proofs.Invariant.{Inv}
 use Rattle.history.proofs.Openings.{hit-same, hit-other}
+use Rattle.history.proofs.Rows.{place-low}
 use Rattle.history.proofs.Chain.{lists, idle-observe}
 use Rattle.history.proofs.History.{set-up-new, inv-set-up, inv-chain, followed}
 
 -- what was observed of a place against the tracker's estimate of it
-record Counted (a estimate spill accesses latest since : ℕ) : Type 0 where
+record Counted (estimate spill accesses latest since : ℕ) : Type 0 where
   most : accesses ≤ estimate
   least : estimate ≤ accesses + spill
   last : latest + since ≤ estimate
-  -- from the threshold on it is the last one that was answered
-  near : (estimate ≡ latest) ⊎ (estimate < a)
 
 -- of every place
 abbrev Watched : Settings → State → Observed → Type 0
 Watched S σ o = (p : ℕ) → p ≢ empty
-    → Counted (S .a) (estimate S σ p) ((trackerAt S σ p) .spill) (o .accesses p) (o .latest p) (o .since p)
+    → Counted (estimate S σ p) ((trackerAt S σ p) .spill) (o .accesses p) (o .latest p) (o .since p)
 
 -- ---- a new epoch
 
 watched-new : (S : Settings) → 1 ≤ S .b → (σ : State) → Watched S (calls.ticked S σ) unobserved
 watched-new S some σ p n =
-    all-new S σ some (λ t. Counted (S .a) (estimateFor t p) (t .spill) 0 0 0)
-    (rw (estimate-new (S .k) p) (record { most = omega arith; least = omega arith; last = omega arith; near = inl refl })) p
+    all-new S σ some (λ t. Counted (estimateFor t p) (t .spill) 0 0 0)
+    (rw (estimate-new (S .k) p) (record { most = omega arith; least = omega arith; last = omega arith })) p
 
 -- ---- an accepted access
 
--- a multiple of a that is above some number is at least a
-once : {x : ℕ} (a m : ℕ) → x < m * a → a ≤ m * a
-once {x} a m h =
-    elim (eq? m 0) [
-      | inl e ↦ let none : x < 0 * a = rw e at h in omega arith
-      | inr n ↦ omega (arith, mul-le-mul-right {m = 1} {n = m} a (omega arith))
-    ]
+-- an estimate that is at most a calls for a move where it is a
+due : (a e : ℕ) → e ≤ a → isDue a e ≡ true → e ≡ a
+due a e few d =
+    let some : e ≢ 0 = eqb-false e 0 (not-true (eqb e 0) (and-left (not (eqb e 0)) (eqb (e % a) 0) d)) in
+    let none : e % a ≡ 0 = eqb-true (e % a) 0 (and-right (not (eqb e 0)) (eqb (e % a) 0) d) in
+    elim (lt? e a) [ inl below ↦ absurd (some (sym (mod-eq-of-lt below) ∙ none)) | inr all ↦ omega arith ]
 
--- an estimate calls for a move, or it does not
-due : (a e : ℕ) → isDue a e ≡ true → (e ≢ 0) × (e % a ≡ 0)
-due a e d = (
-  eqb-false e 0 (not-true (eqb e 0) (and-left (not (eqb e 0)) (eqb (e % a) 0) d)),
-  eqb-true (e % a) 0 (and-right (not (eqb e 0)) (eqb (e % a) 0) d),
-)
-
-not-due : (a e : ℕ) → isDue a e ≡ false → e ≢ 0 → e % a ≢ 0
-not-due a e d n z = true≢false (rw (ne-eqb e 0 n, eq-eqb (e % a) 0 z) at d)
+not-due : (a e : ℕ) → 0 < a → isDue a e ≡ false → e ≢ a
+not-due a e pos d same =
+    let some : e ≢ 0 = λ z. omega arith in
+    let none : e % a ≡ 0 = rw same (mod-self a) in
+    true≢false (rw (ne-eqb e 0 some, eq-eqb (e % a) 0 none) at d)
 
 module _ (S : Settings) (σ : State) (τ₀ τ : tally.Tally) (I : Inv S σ τ₀ τ) (o : Observed) (W : Watched S σ o) where
   module _ (r : ℕ) (row-in : r < S .n) (more : trackerAt S σ (place S σ r) .acts < S .l) (store : List ℕ) where
@@ -120,7 +114,7 @@ module _ (S : Settings) (σ : State) (τ₀ τ : tally.Tally) (I : Inv S σ τ�
               let after : State = settled S σ r store m in
               let seen : Observed = observeAccess o p given in
               subst (λ (y : ℕ).
-              Counted (S .a) (estimate S after y) ((trackerAt S after y) .spill) (seen .accesses y) (seen .latest y) (seen .since y))
+              Counted (estimate S after y) ((trackerAt S after y) .spill) (seen .accesses y) (seen .latest y) (seen .since y))
               (sym e)
               (record {
                 most = omega (arith, was .most, E .same);
@@ -128,10 +122,6 @@ module _ (S : Settings) (σ : State) (τ₀ τ : tally.Tally) (I : Inv S σ τ�
                 last = elim (eq? given 0) [
                   | inl z ↦ rw (eq-eqb p p refl, eq-eqb given 0 z) (omega (arith, was .last, E .same))
                   | inr g ↦ rw (eq-eqb p p refl, ne-eqb given 0 g) (omega (arith, given-is g, E .same))
-                ];
-                near = elim (eq? given 0) [
-                  | inl z ↦ inr (omega (arith, spill-is z, E .same, below))
-                  | inr g ↦ inl (rw (eq-eqb p p refl, ne-eqb given 0 g) (E .same ∙ sym (given-is g)))
                 ];
               })
           | inr k ↦
@@ -142,10 +132,6 @@ module _ (S : Settings) (σ : State) (τ₀ τ : tally.Tally) (I : Inv S σ τ�
                 most = omega (arith, was .most);
                 least = elim (E .drifts x k n) [ inl g ↦ omega (arith, was .least, g, E .spill-grows x) | inr g ↦ omega (arith, g) ];
                 last = omega (arith, was .last);
-                near = elim (E .other x k n .1) [
-                  | inl g ↦ elim (was .near) [ inl q ↦ inl (g ∙ q) | inr q ↦ inr (omega (arith, g)) ]
-                  | inr g ↦ inr g
-                ];
               })
         ]
 
@@ -154,13 +140,18 @@ module _ (S : Settings) (σ : State) (τ₀ τ : tally.Tally) (I : Inv S σ τ�
     concluded answer at is =
         let was = W p real in
         let told = slot-told S σ r (I .sound .ranges) (I .head-in) in
+        let low = place-low S σ τ₀ τ I r row-in in
+        let pos : 0 < S .a = I .sound .ranges .a-low in
+        let few : given ≤ S .a = omega (arith, given-most, low) in
         rw (at, is) (record {
-          moved = λ n. elim told [ inl t ↦ absurd (n (t .0)) | inr t ↦ due (S .a) given (t .1) ];
-          stayed = λ z. elim told [ inl t ↦ not-due (S .a) given (t .1) | inr t ↦ absurd (t .0 z) ];
+          within = few;
+          moved = λ n. elim told [ inl t ↦ absurd (n (t .0)) | inr t ↦ due (S .a) given few (t .1) ];
+          stayed = λ z. elim told [ inl t ↦ not-due (S .a) given pos (t .1) | inr t ↦ absurd (t .0 z) ];
           rises = λ n. omega (arith, was .last, given-is n);
-          passes-none = λ m h. elim (was .near) [
-            | inl q ↦ omega (arith, given-most, q)
-            | inr q ↦ omega (arith, given-most, once (S .a) m h)
+          further = omega (arith, was .last, low);
+          last = λ e. elim (eq? given 0) [
+            | inl z ↦ absurd (omega (arith, was .last, spill-is z, below, low))
+            | inr n ↦ omega (arith, was .last, given-is n, low)
           ];
           most = λ n. omega (arith, was .most, given-is n);
           least = omega (arith, given-most, was .least, K .spill-grows);

@@ -14,7 +14,8 @@ use Rattle.engine.specs.Ladder.{setUpNumber}
 use Rattle.engine.specs.Calls as calls
 use Rattle.engine.proofs.Facts.{Fit, fit}
 use Rattle.engine.proofs.Trackers.{cleared-new}
-use Rattle.history.specs.Run.{Call, Event, step, eventOf, reportOf, Each, OneOf}
+use Rattle.basics.specs.Lists.{Each, OneOf}
+use Rattle.history.specs.Run.{Call, Event, step, eventOf, reportOf}
 use Rattle.history.specs.Tally as tally
 use Rattle.history.specs.Chain.{Idle, Chain, end, call, idle, OfChains, AnyCall}
 use Rattle.history.specs.Demand2.{InverseHolds, TablesInverse, Usual, UsualHolds, OnlyUsual}

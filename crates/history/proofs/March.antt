@@ -9,7 +9,7 @@ use lib.Dec.{ltb, eqb}
 use borrow.Author.Tests.{eq-eqb, ne-eqb, lt-ltb, le-ltb}
 use Rattle.geometry.specs.declared.Settings.{Settings}
 use Rattle.geometry.specs.Entry.{empty}
-use Rattle.geometry.proofs.Cases.{split, eq?, lt?}
+use Rattle.basics.proofs.Cases.{split, eq?, lt?}
 use Rattle.banks.specs.Banks.{bankOf}
 use Rattle.tracking.proofs.Tracking.{one-if}
 use Rattle.geometry.specs.Place.{placeBy}

@@ -10,7 +10,7 @@ use lib.Dec.{leb}
 use borrow.Author.Tests.{eq-eqb, ne-eqb, lt-leb}
 use Rattle.geometry.specs.declared.Settings.{Settings}
 use Rattle.geometry.specs.Entry.{empty}
-use Rattle.geometry.proofs.Cases.{eq?}
+use Rattle.basics.proofs.Cases.{eq?}
 use Rattle.banks.specs.Banks.{bankOf}
 use Rattle.tracking.specs.Track.{isDue}
 use Rattle.tracking.proofs.Spare.{busy, Spared, spared}

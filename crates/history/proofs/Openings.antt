@@ -9,7 +9,7 @@ use mathlib.Core.Logic.{_⊎_, inl, inr, _≢_}
 use mathlib.Core.Bool.{Bool, true, false, not, true≢false, false≢true}
 use lib.Dec.{leb}
 use borrow.Author.Tests.{ne-eqb, eq-eqb, le-leb, lt-leb}
-use Rattle.geometry.proofs.Cases.{lt?}
+use Rattle.basics.proofs.Cases.{lt?}
 use Rattle.tracking.proofs.Tracking.{one-if}
 use Rattle.tracking.proofs.View.{Grew}
 use Rattle.history.specs.Tally.{hit}
@@ -62,6 +62,10 @@ module _ {a : ℕ} where
   home-bound (away h k) = omega arith
   home-bound (left h) = h
 
+  -- while it holds its row, its estimate is below the threshold
+  pub home-low : {gone : Bool} {o z e : ℕ} → Home a o z e true gone → e < a
+  home-low (here h k) = k
+
   pub home-new : (h : Bool) (z : ℕ) → 0 < a → Home a z z 0 h false
   home-new true z pos = here (omega arith) pos
   home-new false z pos = away (omega arith) pos
@@ -99,6 +103,11 @@ module _ {a : ℕ} where
   slot-bound (free h k) = omega arith
   slot-bound (refilled h k) = omega arith
   slot-bound (spent h) = omega arith
+
+  -- while it holds a row, its estimate is below the threshold
+  pub slot-low : {gone : Bool} {o z e : ℕ} → Slot a o z e gone false → e < a
+  slot-low (full h k) = k
+  slot-low (refilled h k) = k
 
   pub slot-new : (f : Bool) (o : ℕ) → 0 < a → Slot a o (o + one-if (not f)) 0 false f
   slot-new true o pos = free (omega arith) (omega arith)

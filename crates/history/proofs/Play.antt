@@ -11,7 +11,7 @@ use Rattle.geometry.specs.declared.Settings.{Settings}
 use Rattle.engine.specs.State.{State}
 use Rattle.engine.specs.Round.{skippedOf}
 use Rattle.history.specs.Tally.{Report, Tally, hit, withOpenings, afterAccess, nextEpoch, feed, endsEpoch, Stretch, epochs}
-use Rattle.history.specs.Run.{Each}
+use Rattle.basics.specs.Lists.{Each}
 use Rattle.history.specs.Window.{fed, ticksIn}
 use Rattle.history.specs.Tight.{Part, reads, ticks, readOf, callsOf}
 use Rattle.history.proofs.Known.{Picture, Known, plusAt, placeIn, afterReads, Fits, afterQuarantine, afterTick}

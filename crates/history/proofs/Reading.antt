@@ -12,7 +12,7 @@ use lib.ListN.{replicate, replicate-append-replicate}
 use borrow.Author.Tests.{eq-eqb, ne-eqb}
 use Rattle.geometry.specs.declared.Settings.{Settings}
 use Rattle.geometry.specs.Entry.{empty}
-use Rattle.geometry.proofs.Cases.{split, eq?}
+use Rattle.basics.proofs.Cases.{split, eq?}
 use Rattle.banks.specs.Banks.{bankOf}
 use Rattle.engine.specs.State.{State}
 use Rattle.engine.specs.Round.{skippedOf}

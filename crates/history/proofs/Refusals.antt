@@ -12,7 +12,8 @@ use Rattle.engine.specs.Ladder.{setUpNumber, inspectNumber}
 use Rattle.engine.specs.Calls as calls
 use Rattle.engine.proofs.Facts.{fit-all, tick-all, access-all, inspect-all}
 use Rattle.engine.proofs.Parts.{part-long, width-some}
-use Rattle.history.specs.Run.{access, look, Call, rank, tick, askedOf, rowLooked, figureless, OneOf}
+use Rattle.basics.specs.Lists.{OneOf}
+use Rattle.history.specs.Run.{access, look, Call, rank, tick, askedOf, rowLooked, figureless}
 use Rattle.history.specs.Demand1.{allowed, bufferOf, Demand1}
 use Rattle.history.proofs.Groups.{ladder, step-number, refused-step}
 

@@ -11,12 +11,12 @@ use lib.ListN.{replicate}
 use borrow.Author.Tests.{eq-eqb, ne-eqb, le-leb}
 use Rattle.geometry.specs.declared.Settings.{Settings}
 use Rattle.geometry.specs.Entry.{empty}
-use Rattle.geometry.proofs.Cases.{lt?}
+use Rattle.basics.proofs.Cases.{lt?}
 use Rattle.geometry.specs.Place.{placeBy}
 use Rattle.engine.specs.Round.{skippedOf}
 use Rattle.engine.proofs.Skipping.{skip-all}
 use Rattle.history.specs.Tally.{Report, Tally, start, nextEpoch}
-use Rattle.history.specs.Run.{Some}
+use Rattle.basics.specs.Lists.{Some}
 use Rattle.history.specs.Tight.{Part, reads, ticks, oneShort, eachRead, shortFilled, nineParts}
 use Rattle.history.proofs.Known.{Picture, plusAt, placeIn, afterTick, fresh}
 use Rattle.history.proofs.Reading.{onStay, onWant}

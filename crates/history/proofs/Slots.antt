@@ -8,7 +8,7 @@ use lib.Dec.{ltb, leb}
 use borrow.Author.Tests.{ltb-true, le-leb, leb-true}
 use Rattle.geometry.specs.declared.Settings.{Settings}
 use Rattle.geometry.specs.Entry.{empty}
-use Rattle.geometry.proofs.Tests.{and-left, and-right}
+use Rattle.basics.proofs.Tests.{and-left, and-right}
 use Rattle.banks.specs.Banks.{bankOf}
 use Rattle.history.specs.Tight.{Part, reads, twoSlots, threeSlots, twoFilled, threeFilled, homeParts, homePartsOver, slotParts, slotPartsOver}
 use Rattle.history.proofs.Known.{Picture, plusAt, placeIn, afterReads, Fits, afterQuarantine, fresh}

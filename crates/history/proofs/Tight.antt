@@ -5,7 +5,7 @@ use native.Mathlib.Omega.{arith}
 use mathlib.Core.Path.{_≡_, refl}
 use mathlib.Core.Logic.{inl, inr}
 use mathlib.Core.Bool.{true}
-use Rattle.geometry.proofs.Tests.{within}
+use Rattle.basics.proofs.Tests.{within}
 use Rattle.conditions.specs.Conditions.{rangesHold}
 use Rattle.history.specs.Tally.{hit}
 use Rattle.history.specs.Tight.{twoSlots, threeSlots, oneShort, Tight}

@@ -8,7 +8,7 @@ use mathlib.Core.List.{List, [], _∷_, _++_, map}
 use lib.Dec.{eqb}
 use Rattle.geometry.specs.declared.Settings.{Settings}
 use Rattle.geometry.specs.Entry.{empty}
-use Rattle.geometry.proofs.Cases.{split}
+use Rattle.basics.proofs.Cases.{split}
 use Rattle.engine.specs.State.{State}
 use Rattle.engine.specs.Calls as calls
 use Rattle.history.specs.Tally.{Request, access, look, tick, Report, Tally, start, nextEpoch, afterRequest, feed}

@@ -12,7 +12,8 @@ use Rattle.engine.specs.State.{State, stateOf, lengthsOf, newControl}
 use Rattle.engine.specs.Calls.{setUp, noted}
 use Rattle.engine.proofs.Facts.{fit-passes}
 use Rattle.history.specs.Tally.{Report, Tally, start, openingsIn, epochs}
-use Rattle.history.specs.Run.{Call, tick, Event, run, events, reportOf, Some}
+use Rattle.basics.specs.Lists.{Some}
+use Rattle.history.specs.Run.{Call, tick, Event, run, events, reportOf}
 use Rattle.history.specs.Window.{fed, ticksIn}
 use Rattle.history.specs.Tight.{Part, reads, ticks, readOf, callsOf, Witness, OverOneTick}
 use Rattle.history.proofs.Known.{Picture, Known, fresh, known-set-up}

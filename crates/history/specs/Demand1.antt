@@ -10,7 +10,8 @@ use Rattle.geometry.specs.declared.Settings.{Settings}
 use Rattle.engine.specs.State.{State}
 use Rattle.engine.specs.Ladder.{inspectNumber}
 use Rattle.engine.specs.Calls.{setUp, inspectPart}
-use Rattle.history.specs.Run.{Access, read, write, access, look, Call, rank, tick, figureless, step, OneOf}
+use Rattle.basics.specs.Lists.{OneOf}
+use Rattle.history.specs.Run.{Access, read, write, access, look, Call, rank, tick, figureless, step}
 
 -- the column 'calls' of 'Where each call can stop', and 0 for the service: the numbers that a call may answer
 abbrev pub allowed : Call → List ℕ

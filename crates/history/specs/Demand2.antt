@@ -12,7 +12,8 @@ use Rattle.engine.specs.State.{State}
 use Rattle.engine.specs.Calls.{inspectPart}
 use Rattle.engine.specs.Inverse.{Inverse}
 use Rattle.history.specs.Run.{Access, read, write, access, look, Call, rank, tick, rowOf, spanOff}
-use Rattle.history.specs.Run.{Answer, Event, step, OfAccepted, Each, OneOf}
+use Rattle.basics.specs.Lists.{Each, OneOf}
+use Rattle.history.specs.Run.{Answer, Event, step, OfAccepted}
 use Rattle.history.specs.Chain.{Claim, OfLists, CallClaim}
 
 -- ---- 'forward and reverse tables are inverse'

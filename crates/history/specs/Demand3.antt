@@ -7,7 +7,8 @@ use mathlib.Core.List.{List, [], _∷_, map}
 use Rattle.geometry.specs.declared.Settings.{Settings}
 use Rattle.geometry.specs.Numbering.{homeRow, slotRow}
 use Rattle.history.specs.Tally.{Tally, start, feed, Stretch, openingsIn, quarantinesIn, epochs}
-use Rattle.history.specs.Run.{Access, rowOf, Answer, Event, OfAccepted, reportOf, Each}
+use Rattle.basics.specs.Lists.{Each}
+use Rattle.history.specs.Run.{Access, rowOf, Answer, Event, OfAccepted, reportOf}
 use Rattle.history.specs.Chain.{Claim, OfLists}
 
 -- what holds of an epoch

@@ -1,7 +1,7 @@
 -- Document 02, Ask 2: what the lab may conclude from the estimates that accesses answer. The proof is `estimates` of
 -- proofs/Estimates.antt; the same of what a C caller sees is `EstimatesServed` of crate `served`.
 -- Assumes nothing.
-use Prim.Native.Nat.{ℕ, suc, _+_, _*_, _%_, _≤_, _<_}
+use Prim.Native.Nat.{ℕ, suc, _+_, _≤_, _<_}
 use mathlib.Core.Path.{_≡_}
 use mathlib.Core.Logic.{_≢_}
 use mathlib.Core.Bool.{Bool, cond, not, _&&_}
@@ -56,13 +56,15 @@ observed o (e ∷ es) = observed (observe o e) es
 -- one included; latest: the last estimate other than 0 answered for it before, in this epoch; between: how often accesses
 -- opened it between that one and this one; spill: `spill` after the access.
 pub record Conclusions (S : Settings) (accesses latest between spill : ℕ) (answer : Answer) : Type 0 where
-  -- the row was moved exactly where there is an estimate and A divides it
-  pub moved : answer .slot ≢ empty → (answer .estimate ≢ 0) × (answer .estimate % S .a ≡ 0)
-  pub stayed : answer .slot ≡ empty → answer .estimate ≢ 0 → answer .estimate % S .a ≢ 0
-  -- the estimates of one place rise strictly (0 may stand between them), by at least one for each access, and pass over no
-  -- multiple of A
+  -- an estimate is at most A, and the row was moved exactly where it is A
+  pub within : answer .estimate ≤ S .a
+  pub moved : answer .slot ≢ empty → answer .estimate ≡ S .a
+  pub stayed : answer .slot ≡ empty → answer .estimate ≢ S .a
+  -- the estimates of one place rise strictly (0 may stand between them), by at least one for each access
   pub rises : answer .estimate ≢ 0 → latest + between < answer .estimate
-  pub passes-none : (m : ℕ) → latest < m * S .a → answer .estimate ≤ m * S .a
+  -- so after an estimate e accesses open the place at most A − e times more in this epoch, and the last of these moves the row
+  pub further : latest + suc between ≤ S .a
+  pub last : latest + suc between ≡ S .a → answer .estimate ≡ S .a
   -- an estimate is at least the accesses of the place, and exceeds them by at most `spill`
   pub most : answer .estimate ≢ 0 → accesses ≤ answer .estimate
   pub least : answer .estimate ≤ accesses + spill

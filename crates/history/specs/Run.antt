@@ -2,7 +2,6 @@
 -- Assumes nothing.
 use Prim.Native.Nat.{ℕ}
 use mathlib.Core.Path.{_≡_}
-use mathlib.Core.Logic.{_⊎_}
 use mathlib.Core.Bool.{Bool}
 use mathlib.Core.List.{List, [], _∷_}
 use lib.ListN.{length}
@@ -160,20 +159,3 @@ reportOf e =
       slot = e .answer .slot;
       row = e .answer .row;
     }
-
--- ---- lists
-
--- of every element of a list
-abbrev pub Each : {A : Type 0} → (A → Type 0) → List A → Type 0
-Each P [] = Unit {0}
-Each P (x ∷ xs) = P x × Each P xs
-
--- of some element of a list
-abbrev pub Some : {A : Type 0} → (A → Type 0) → List A → Type 0
-Some P [] = ⊥
-Some P (x ∷ xs) = P x ⊎ Some P xs
-
--- x stands in the list
-abbrev pub OneOf : List ℕ → ℕ → Type 0
-OneOf [] x = ⊥
-OneOf (y ∷ ys) x = (x ≡ y) ⊎ OneOf ys x

@@ -1,7 +1,7 @@
 -- No figure of demand 3 (`Demand3`), or of a stretch over one tick (`Window`), can be lowered: for every A and every B
 -- there are settings and a list of calls that reach it. The proof is `tight` of proofs/Tight.antt.
 -- `bin/witness` reads the settings and the lists from this file and writes them as traces. So each stands on one line,
--- with its arguments named a and b, and in `AllReached` each figure has its `Witness (..) (..)` on one line.
+-- with its arguments named a and b, and in `AllReached` each figure has its `Reached (..) (..)` on one line.
 -- Assumes nothing.
 use Prim.Native.Nat.{ℕ, zero, suc, _+_, _-_, _*_, _/_, _≤_}
 use mathlib.Core.Path.{_≡_}
@@ -13,7 +13,8 @@ use Rattle.banks.specs.Banks.{mostBanks}
 use Rattle.engine.specs.State.{State}
 use Rattle.engine.specs.Calls.{setUp}
 use Rattle.history.specs.Tally.{start, Stretch, openingsIn, quarantinesIn, epochs}
-use Rattle.history.specs.Run.{read, access, Call, rank, tick, Event, events, reportOf, Some}
+use Rattle.basics.specs.Lists.{Some}
+use Rattle.history.specs.Run.{read, access, Call, rank, tick, Event, events, reportOf}
 use Rattle.history.specs.Window.{ticksIn, stretchOf}
 
 -- ---- lists, told in parts
@@ -113,28 +114,33 @@ pub record OverOneTick (S : Settings) (p figure : ℕ) (es : List Event) : Type 
   pub one : ticksIn (map reportOf during) ≡ 1
   pub opened : openingsIn (stretchOf S (map reportOf before) (map reportOf during)) p ≡ figure
 
--- the figures of A and B
-pub record AllReached (b a : ℕ) : Type 0 where
+-- The figures of A and B. Reached S parts P: with the settings S the list told by the parts makes P hold of what is answered; of
+-- the definitions that is `Witness`, of the C functions `WitnessServed` of crate `served`.
+pub record AllReached (Reached : Settings → List Part → (List Event → Type 0) → Type 0) (b a : ℕ) : Type 0 where
   -- some epoch opens a home row, that of row 0, exactly A + 2 times
-  pub home : Witness (twoSlots b a) (twoFilled a ++ homeParts a)
+  pub home : Reached (twoSlots b a) (twoFilled a ++ homeParts a)
       (SomeEpoch (twoSlots b a) (λ e. openingsIn e (homeRow 0) ≡ a + 2))
   -- some epoch opens a slot, slot 0, exactly A + 3 times
-  pub slot : Witness (twoSlots b a) (twoFilled a ++ slotParts a)
+  pub slot : Reached (twoSlots b a) (twoFilled a ++ slotParts a)
       (SomeEpoch (twoSlots b a) (λ e. openingsIn e (slotRow (twoSlots b a) 0) ≡ a + 3))
   -- some stretch over one tick opens a home row exactly 2A + 4 times
-  pub home-over-tick : Witness (threeSlots b a) (threeFilled a ++ homePartsOver a)
+  pub home-over-tick : Reached (threeSlots b a) (threeFilled a ++ homePartsOver a)
       (OverOneTick (threeSlots b a) (homeRow 0) (2 * a + 4))
   -- .. and a slot exactly 2A + 5 times
-  pub slot-over-tick : Witness (twoSlots b a) (twoFilled a ++ slotPartsOver a)
+  pub slot-over-tick : Reached (twoSlots b a) (twoFilled a ++ slotPartsOver a)
       (OverOneTick (twoSlots b a) (slotRow (twoSlots b a) 0) (2 * a + 5))
   -- some epoch has exactly B × floor(L / A) quarantines
-  pub quarantines : Witness (oneShort b a) (shortFilled b a)
+  pub quarantines : Reached (oneShort b a) (shortFilled b a)
       (SomeEpoch (oneShort b a) (λ e. quarantinesIn e ≡ b * ((oneShort b a) .l / a)))
   -- with Q one less than twice that an access gets 9
-  pub nine : Witness (oneShort b a) (shortFilled b a ++ nineParts b a)
+  pub nine : Reached (oneShort b a) (shortFilled b a ++ nineParts b a)
       (Some (λ e. e .answer .number ≡ 9))
   pub nine-slots : (oneShort b a) .q + 1 ≡ 2 * (b * ((oneShort b a) .l / a))
 
 -- for every B and every A that set-up accepts
+abbrev pub TightBy : (Settings → List Part → (List Event → Type 0) → Type 0) → Type 0
+TightBy Reached = (b a : ℕ) → 1 ≤ b → b ≤ mostBanks → 1 ≤ a → a ≤ 65535 → AllReached Reached b a
+
+-- of the definitions
 abbrev pub Tight : Type 0
-Tight = (b a : ℕ) → 1 ≤ b → b ≤ mostBanks → 1 ≤ a → a ≤ 65535 → AllReached b a
+Tight = TightBy Witness

@@ -14,7 +14,7 @@ use mir.Val.{Fits, SFits, toZ, ofZ}
 use mir.ValLaws.{toZ-ofZ}
 use borrow.Author.Tests.{ltb-true, ne-eqb}
 use Rattle.libc.specs.Io.{Moved}
-use Rattle.geometry.proofs.Cases.{eq?}
+use Rattle.basics.proofs.Cases.{eq?}
 use Rattle.input.specs.declared.Input.the-variants.{Failed, Read}
 use Rattle.input.specs.declared.Next.{Next}
 use Rattle.input.specs.declared.Next.the-variants.{Over, More}

@@ -13,15 +13,15 @@ use Rattle.geometry.specs.declared.Settings.{Settings}
 use Rattle.geometry.specs.declared.Control.{Control}
 use Rattle.geometry.specs.declared.Lengths.{Lengths}
 use Rattle.geometry.specs.Entry.{empty, isEmpty}
-use Rattle.geometry.specs.Ranges.{someBelow}
-use Rattle.geometry.proofs.Below.{below-first}
-use Rattle.geometry.proofs.Cases.{lt?}
+use Rattle.basics.specs.Ranges.{someBelow}
+use Rattle.basics.proofs.Below.{below-first}
+use Rattle.basics.proofs.Cases.{lt?}
 use Rattle.conditions.specs.Conditions.{lengthsHold}
 use Rattle.conditions.proofs.Facts.{Ranges, Exact, ranges-facts, lengths-facts}
 use Rattle.scan.specs.Scan.{some}
 use Rattle.scan.proofs.Scans.{some-none}
 use Rattle.scan.proofs.Loops.{counts-below}
-use Rattle.banks.specs.Portions.{portion}
+use Rattle.basics.specs.Portions.{portion}
 use Rattle.banks.specs.Banks.{mostBanks}
 use Rattle.engine.specs.declared.Asked.{Asked}
 use Rattle.engine.specs.State.{Tables, State, lengthsOf, trackerOf, ringOf}

@@ -7,7 +7,7 @@ use mathlib.Core.List.{List}
 use lib.ListN.{length, take}
 use Rattle.geometry.specs.declared.Settings.{Settings}
 use Rattle.geometry.specs.declared.Ring.{Ring}
-use Rattle.geometry.specs.Ranges.{someBelow}
+use Rattle.basics.specs.Ranges.{someBelow}
 use Rattle.engine.specs.Ladder.{ringUnsound, trackerUnsound, bankUnsound}
 
 -- 4 applies because of `head`, `passed` or the first bank (spill, acts: its numbers)

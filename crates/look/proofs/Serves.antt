@@ -1,9 +1,11 @@
--- Inspect's part as the code puts it together is the definition of `Calls`. Assumes nothing.
-use Prim.Native.Nat.{ℕ}
-use mathlib.Core.Path.{_≡_, sym, _∙_}
+-- Inspect's part as the code puts it together is what is promised. Assumes nothing.
+use Prim.Native.Nat.{ℕ, _+_, _*_}
+use native.Mathlib.Nat.{zero-add}
+use mathlib.Core.Path.{_≡_, refl, sym, ap, _∙_}
 use mathlib.Core.Logic.{_≢_}
 use mathlib.Core.List.{List, []}
-use borrow.Author.Tests.{eq-eqb, ne-eqb}
+use denote.Ref.{RefT, now, ptr}
+use borrow.Author.Tests.{ne-eqb}
 use Rattle.geometry.specs.declared.Settings.{Settings}
 use Rattle.geometry.specs.declared.PhysicalRow.{PhysicalRow}
 use Rattle.geometry.specs.Numbering.{physical}
@@ -12,12 +14,23 @@ use Rattle.engine.specs.State.{State}
 use Rattle.engine.specs.Steps.{place}
 use Rattle.engine.specs.Ladder.{inspectNumber}
 use Rattle.engine.specs.Calls.{inspectPart}
+use Rattle.engine.proofs.Parts.{part-is}
+use Rattle.figures.specs.Promises.{InspectPartPromise}
+use Rattle.figures.proofs.Spans.{span-none, span-row}
 
-module _ (S : Settings) (σ : State) (r x : ℕ) (same : x ≡ inspectNumber S σ r) where
-  pub part-none : x ≢ 0 → [] ≡ inspectPart S σ r
+-- x: the number as the code has it; store, part: what is lent and what is returned
+module _ (S : Settings) (σ : State) (r x : ℕ) (same : x ≡ inspectNumber S σ r) (store part : RefT (List ℕ)) where
+  none : x ≢ 0 → [] ≡ inspectPart S σ r
   unfolding inspectPart
-  part-none n = rw (ne-eqb (inspectNumber S σ r) 0 (λ z. n (same ∙ z)))
+  none n = rw (ne-eqb (inspectNumber S σ r) 0 (λ z. n (same ∙ z)))
 
-  pub part-row : x ≡ 0 → (p : PhysicalRow) → p ≡ physical (place S σ r) → (part : List ℕ) → part ≡ rowBytes (S .w) (σ .store) (p .0) → part ≡ inspectPart S σ r
-  unfolding inspectPart
-  part-row z p placed part e = e ∙ rw (eq-eqb (inspectNumber S σ r) 0 (sym same ∙ z), placed)
+  pub part-none : x ≢ 0 → now part ≡ [] → ptr part ≡ ptr store → InspectPartPromise S σ r store part
+  part-none n e at =
+      (e ∙ none n, rw (← span-none S σ r x same n _ refl) (at ∙ ap (λ (o : ℕ). (ptr store .0, o)) (sym (zero-add (ptr store .1)))))
+
+  pub part-row : x ≡ 0 → (p : PhysicalRow) → p ≡ physical (place S σ r) → now part ≡ rowBytes (S .w) (σ .store) (p .0)
+      → ptr part ≡ (ptr store .0, p .0 * S .w + ptr store .1) → InspectPartPromise S σ r store part
+  part-row z p placed e at = (
+    e ∙ ap (λ (q : PhysicalRow). rowBytes (S .w) (σ .store) (q .0)) placed ∙ sym (part-is S σ r x same z),
+    rw (← span-row S σ r x same z p placed _ refl) at,
+  )

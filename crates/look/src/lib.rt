@@ -8,8 +8,7 @@ ghost use Rattle.geometry.specs.Entry.{empty};
 ghost use Rattle.geometry.specs.Place.{placeBy};
 ghost use Rattle.engine.specs.State.{entering};
 ghost use Rattle.engine.specs.Ladder.{inspectNumber};
-ghost use Rattle.engine.specs.Calls.{inspectPart};
-ghost use Rattle.figures.specs.Promises.{InspectSpanPromise};
+ghost use Rattle.figures.specs.Promises.{InspectSpanPromise, InspectPartPromise};
 use figures::Span;
 use geometry::Control;
 use geometry::PhysicalRow;
@@ -45,7 +44,7 @@ fn place_of(s: Settings, row: u32, forward: &[u16]) -> PhysicalRow
     geometry::place(s, VisibleRow(row as u16), ladder::forward_of(forward, row))
 }
 
-// Returns inspect's part: the row's bytes within the store, none of them where the number is not 0.
+// Returns inspect's part: the row's bytes where they lie in the store, none of them where the number is not 0.
 pub fn inspect_part<'a>(
     control: Control,
     s: Settings,
@@ -56,7 +55,9 @@ pub fn inspect_part<'a>(
     rows: &[u16],
     counts: &[u32],
 ) -> &'a [u8]
-    ensures { λ r. ⌜ now r ≡ inspectPart s (entering store forward reverse rows counts control) row ⌝ }
+    ensures { λ r.
+        let lent = entering store forward reverse rows counts control in
+        ⌜ InspectPartPromise s lent row (store .entry) r ⌝ }
 {
     let number = inspect_number(control, s, row, store, forward, reverse, rows, counts);
     if number != 0 {

@@ -9,9 +9,9 @@ use lib.Dec.{eqb}
 use lib.ListN.{length, getD, drop, drop-of-length-le}
 use lib.Seq.{drop-cons}
 use borrow.Author.Tests.{eqb-true}
-use Rattle.geometry.specs.Lists.{every}
-use Rattle.geometry.proofs.Cases.{split}
-use Rattle.geometry.proofs.Tests.{and-left, and-right}
+use Rattle.basics.specs.Lists.{every}
+use Rattle.basics.proofs.Cases.{split}
+use Rattle.basics.proofs.Tests.{and-left, and-right}
 use Rattle.number_text.specs.Numbers.{isDigit, isGap, blank, numbers, numbersFrom}
 
 -- ---- the bytes from index i on

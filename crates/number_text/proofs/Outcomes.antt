@@ -12,9 +12,9 @@ use lib.Dec.{leb}
 use lib.ListN.{length, getD, take, drop, set, length-set, drop-of-length-le}
 use lib.Seq.{drop-cons, take-suc-set, append-snoc}
 use borrow.Author.Tests.{le-leb, lt-leb}
-use Rattle.geometry.proofs.Cases.{split}
+use Rattle.basics.proofs.Cases.{split}
 use Rattle.number_text.specs.declared.scanner.Scan.{Scan}
-use Rattle.geometry.specs.Lists.{every}
+use Rattle.basics.specs.Lists.{every}
 use Rattle.number_text.specs.Numbers.{isDigit, isGap, appended, ended, numbersFrom, readableFrom, numbersWithin}
 use Rattle.number_text.specs.Scanner.{pending, outcome, Past}
 

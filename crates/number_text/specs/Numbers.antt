@@ -6,8 +6,8 @@ use mathlib.Core.List.{List, [], _∷_, _++_}
 use mathlib.Core.Option.{Option, none, some}
 use lib.Dec.{eqb, leb}
 use lib.ListN.{length, take}
-use Rattle.geometry.specs.Ranges.{inRange}
-use Rattle.geometry.specs.Lists.{every}
+use Rattle.basics.specs.Ranges.{inRange}
+use Rattle.basics.specs.Lists.{every}
 use Rattle.number_text.specs.declared.Numbers.{Numbers}
 use Rattle.number_text.specs.declared.Numbers.the-variants.{Unreadable, Count}
 

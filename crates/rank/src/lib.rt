@@ -8,9 +8,8 @@ ghost use Rattle.sizing.specs.declared.SizeTimes.{SizeTimes as SizeTimes-of};
 ghost use Rattle.sizing.specs.declared.RefreshTimes.{RefreshTimes as RefreshTimes-of};
 ghost use Rattle.sizing.specs.Sums.{leastSize, mostActivations};
 ghost use Rattle.engine.specs.State.{entering, leaving};
-ghost use Rattle.engine.specs.Calls.{inspectPart};
 ghost use Rattle.figures.specs.Promises.{SetUpPromise, ReadPromise, WritePromise, TickPromise};
-ghost use Rattle.figures.specs.Promises.{InspectNumberPromise, InspectSpanPromise};
+ghost use Rattle.figures.specs.Promises.{InspectNumberPromise, InspectSpanPromise, InspectPartPromise};
 ghost use Rattle.figures.specs.Sum.{sumOf};
 use figures::Outcome;
 use figures::Span;
@@ -169,7 +168,7 @@ pub fn inspect_part<'a>(
 ) -> &'a [u8]
     ensures { λ r.
         let lent = entering store forward reverse rows counts (now (control .entry)) in
-        ⌜ now r ≡ inspectPart s lent row ⌝ }
+        ⌜ InspectPartPromise s lent row (store .entry) r ⌝ }
 {
     look::inspect_part(*control, s, row, store, forward, reverse, rows, counts)
 }

@@ -5,7 +5,7 @@ use mathlib.Core.Logic.{inl, inr}
 use mathlib.Core.Option.{Option·some-ne-none}
 use lib.ListN.{length}
 use borrow.Author.Tests.{le-leb, lt-leb}
-use Rattle.geometry.proofs.Cases.{split}
+use Rattle.basics.proofs.Cases.{split}
 use Rattle.trace_file.specs.Form.{traceIn, isEmptyTrace}
 use Rattle.trace_file.proofs.Empty.{empty-no-numbers, has-number, few-numbers}
 use Rattle.replay.specs.Replay.{replayed}

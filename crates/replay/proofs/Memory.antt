@@ -8,7 +8,7 @@ use lib.Dec.{leb}
 use lib.ListN.{take, replicate}
 use borrow.Author.Tests.{leb-true}
 use Rattle.geometry.specs.declared.Settings.{Settings}
-use Rattle.geometry.proofs.Tests.{and-left, and-right}
+use Rattle.basics.proofs.Tests.{and-left, and-right}
 use Rattle.conditions.specs.Conditions.{rangesHold}
 use Rattle.conditions.proofs.Facts.{ranges-facts}
 use Rattle.engine.specs.State.{stateOf, newControl}

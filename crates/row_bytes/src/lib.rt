@@ -3,14 +3,16 @@
 ghost use mathlib.Core.Path.{_≡_};
 ghost use mathlib.Core.Logic.{_≢_};
 ghost use Prim.Native.Nat.{_+_, _*_, _≤_};
+ghost use denote.Ref.{ptr};
 ghost use lib.ListN.{length};
 ghost use Rattle.row_layout.specs.Bytes.{rowBytes, written, copied};
 use geometry::PhysicalRow;
 
-// The part of the store that is a row.
+// The part of the store that is a row. It lies where the row begins; an address is a block of memory and an offset in it.
 pub fn row_part<'a>(store: &'a [u8], w: usize, place: PhysicalRow) -> &'a [u8]
     requires { ⌜ place .0 * w + w ≤ length (now store) ⌝ }
-    ensures { λ r. ⌜ now r ≡ rowBytes w (now (store .entry)) (place .0) ⌝ }
+    ensures bytes { λ r. ⌜ now r ≡ rowBytes w (now (store .entry)) (place .0) ⌝ }
+    ensures lies { λ r. ⌜ ptr r ≡ (ptr (store .entry) .0, place .0 * w + ptr (store .entry) .1) ⌝ }
 {
     let start = (place.0 as usize) * w;
     let end = start + w;

@@ -5,27 +5,15 @@ use mathlib.Core.Path.{_≡_, _∙_}
 use mathlib.Core.Logic.{_⊎_, inl, inr, _≢_}
 use mathlib.Core.List.{List}
 use native.Mathlib.Omega.{arith}
-use native.Mathlib.Nat.{suc-mul, mul-le-mul-right}
 use lib.ListN.{length, getD, drop, length-drop}
 use lib.Seq.{length-paste, length-take-le, getD-take, getD-drop}
-use Rattle.geometry.proofs.Cases.{lt?}
-use Rattle.block_put.proofs.Pastes.{paste-in, paste-out}
+use Rattle.basics.proofs.Pastes.{paste-in, paste-out}
+use Rattle.basics.proofs.Portions.{portion-before, portion-apart}
 use Rattle.row_layout.specs.Bytes.{rowBytes, written, copied}
 
 -- the byte of row p at column c
 abbrev pub byteAt : ℕ → List ℕ → ℕ → ℕ → ℕ
 byteAt w store p c = getD store (p * w + c) 0
-
--- rows do not overlap: a row before another ends before it starts
-pub row-before : (w p q : ℕ) → p < q → p * w + w ≤ q * w
-row-before w p q h = omega (arith, suc-mul p w, mul-le-mul-right w h)
-
-pub rows-apart : (w p q : ℕ) → q ≢ p → (q * w + w ≤ p * w) ⊎ (p * w + w ≤ q * w)
-rows-apart w p q other = elim (lt? q p) [ inl before ↦ inl (row-before w q p before) | inr behind ↦ inr (row-before w p q (omega arith)) ]
-
--- so each byte of a row q lies before the row p or behind it
-pub row-apart : (w p q c : ℕ) → q ≢ p → c < w → (q * w + c < p * w) ⊎ (p * w + w ≤ q * w + c)
-row-apart w p q c other h = elim (rows-apart w p q other) [ inl before ↦ inl (omega arith) | inr behind ↦ inr (omega arith) ]
 
 pub rowBytes-at : (w : ℕ) (store : List ℕ) (p c : ℕ) → c < w → getD (rowBytes w store p) c 0 ≡ byteAt w store p c
 unfolding rowBytes
@@ -37,12 +25,12 @@ unfolding rowBytes
 length-row w store p inside = length-take-le w (drop (p * w) store) (omega (arith, length-drop (p * w) store))
 
 pub length-rowBytes : (w rows : ℕ) (store : List ℕ) (p : ℕ) → length store ≡ rows * w → p < rows → length (rowBytes w store p) ≡ w
-length-rowBytes w rows store p sized inside = length-row w store p (omega (arith, row-before w p rows inside))
+length-rowBytes w rows store p sized inside = length-row w store p (omega (arith, portion-before w p rows inside))
 
 -- bytes written into row p from a column on
 module _ (w rows : ℕ) (store : List ℕ) (p column : ℕ) (bytes : List ℕ) (sized : length store ≡ rows * w) (inside : p < rows) (fits : column + length bytes ≤ w) where
   written-fits : p * w + column + length bytes ≤ length store
-  written-fits = omega (arith, row-before w p rows inside)
+  written-fits = omega (arith, portion-before w p rows inside)
 
   -- a written row: the bytes from the column on, its own before and behind
   pub written-in : (c : ℕ) → column ≤ c → c < column + length bytes → byteAt w (written w store p column bytes) p c ≡ getD bytes (c - column) 0
@@ -66,15 +54,15 @@ module _ (w rows : ℕ) (store : List ℕ) (p column : ℕ) (bytes : List ℕ) (
   -- any other row keeps its bytes
   pub written-other : (q c : ℕ) → q ≢ p → c < w → byteAt w (written w store p column bytes) q c ≡ byteAt w store q c
   written-other q c other h =
-      written-out (q * w + c) (elim (row-apart w p q c other h) [ inl before ↦ inl (omega arith) | inr behind ↦ inr (omega arith) ])
+      written-out (q * w + c) (elim (portion-apart w p q c other h) [ inl before ↦ inl (omega arith) | inr behind ↦ inr (omega arith) ])
 
 -- row `source` copied to row `target`
 module _ (w rows : ℕ) (store : List ℕ) (source target : ℕ) (sized : length store ≡ rows * w) (source-inside : source < rows) (target-inside : target < rows) where
   target-fits : target * w + w ≤ length store
-  target-fits = omega (arith, row-before w target rows target-inside)
+  target-fits = omega (arith, portion-before w target rows target-inside)
 
   source-enough : w ≤ length (drop (source * w) store)
-  source-enough = omega (arith, length-drop (source * w) store, row-before w source rows source-inside)
+  source-enough = omega (arith, length-drop (source * w) store, portion-before w source rows source-inside)
 
   -- the target has the source's bytes
   pub copied-to : (c : ℕ) → c < w → byteAt w (copied w store source target) target c ≡ byteAt w store source c
@@ -90,4 +78,4 @@ module _ (w rows : ℕ) (store : List ℕ) (source target : ℕ) (sized : length
   pub copied-other : (q c : ℕ) → q ≢ target → c < w → byteAt w (copied w store source target) q c ≡ byteAt w store q c
   unfolding copied
   copied-other q c other h =
-      paste-out store (target * w) (drop (source * w) store) w target-fits source-enough (q * w + c) (row-apart w target q c other h)
+      paste-out store (target * w) (drop (source * w) store) w target-fits source-enough (q * w + c) (portion-apart w target q c other h)

@@ -11,7 +11,7 @@ use lib.Dec.{ltb}
 use lib.ListN.{length, getD, take, drop, length-drop, drop-of-length-le}
 use lib.Seq.{drop-cons, drop-drop, getD-drop, take-suc, take-all}
 use borrow.Author.Tests.{ltb-false}
-use Rattle.geometry.proofs.Tests.{or-left, or-right}
+use Rattle.basics.proofs.Tests.{or-left, or-right}
 use Rattle.scan.specs.Scan.{lowest, some, Skipped}
 
 or-assoc : (a b c : Bool) → a || b || c ≡ a || (b || c)

@@ -10,7 +10,7 @@ use mathlib.Core.List.{List, [], _∷_}
 use lib.Dec.{eqb}
 use lib.ListN.{length, getD, set, drop}
 use borrow.Author.Tests.{eqb-true, eqb-false, eq-eqb, ne-eqb}
-use Rattle.geometry.proofs.Cases.{split}
+use Rattle.basics.proofs.Cases.{split}
 use Rattle.scan.specs.Scan.{lowest, indexOf, some}
 
 module _ (f : ℕ → Bool) where

@@ -11,9 +11,9 @@ use borrow.Author.Tests.{eqb-false}
 use Rattle.geometry.specs.declared.Settings.{Settings}
 use Rattle.geometry.specs.Numbering.{slotRow}
 use Rattle.geometry.specs.Entry.{empty}
-use Rattle.geometry.proofs.Cases.{split, eq?}
+use Rattle.basics.proofs.Cases.{split, eq?}
 use Rattle.banks.specs.Banks.{bankOf}
-use Rattle.banks.proofs.Portions.{portion-fits, portion-set, portion-set-other}
+use Rattle.basics.proofs.Portions.{portion-fits, portion-set, portion-set-other}
 use Rattle.banks.proofs.Banks.{bank-in}
 use Rattle.tracking.specs.Worn.{worn}
 use Rattle.tracking.specs.Entry.{entryOf, entryIn}

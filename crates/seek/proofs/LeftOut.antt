@@ -8,7 +8,7 @@ use mathlib.Core.List.{List}
 use lib.ListN.{length, set, drop, length-drop}
 use lib.Seq.{set-out, drop-set-lt, drop-set-add, drop-drop}
 use Rattle.geometry.specs.Entry.{empty}
-use Rattle.geometry.proofs.Cases.{lt?}
+use Rattle.basics.proofs.Cases.{lt?}
 use Rattle.scan.specs.Scan.{indexOf}
 use Rattle.scan.proofs.Scans.{index-set-beside, index-set-next}
 

@@ -13,9 +13,9 @@ use borrow.Author.Tests.{eq-eqb, ne-eqb, lt-ltb, le-ltb}
 use Rattle.geometry.specs.declared.Settings.{Settings}
 use Rattle.geometry.specs.Numbering.{slotRow}
 use Rattle.geometry.specs.Entry.{empty}
-use Rattle.geometry.proofs.Cases.{split, eq?, lt?}
+use Rattle.basics.proofs.Cases.{split, eq?, lt?}
 use Rattle.banks.specs.Banks.{bankOf}
-use Rattle.banks.proofs.Portions.{portion-cut}
+use Rattle.basics.proofs.Portions.{portion-cut}
 use Rattle.banks.proofs.Banks.{bank-in}
 use Rattle.tracking.specs.Worn.{worn}
 use Rattle.tracking.proofs.Worn.{worn-here, worn-past, worn-none}

@@ -10,11 +10,11 @@ use lib.ListN.{length, getD, set, take, drop, length-set}
 use lib.Seq.{set-out, take-set-le, take-set-lt, length-take-le}
 use Rattle.geometry.specs.declared.Settings.{Settings}
 use Rattle.geometry.specs.Entry.{empty}
-use Rattle.geometry.proofs.Cases.{lt?}
+use Rattle.basics.proofs.Cases.{lt?}
 use Rattle.scan.specs.Scan.{indexOf}
-use Rattle.banks.specs.Portions.{portion}
+use Rattle.basics.specs.Portions.{portion}
 use Rattle.banks.specs.Banks.{bankOf}
-use Rattle.banks.proofs.Portions.{portion-fits, length-portion, getD-portion, portion-cut}
+use Rattle.basics.proofs.Portions.{portion-fits, length-portion, getD-portion, portion-cut}
 use Rattle.banks.proofs.Banks.{bank-in}
 use Rattle.tracking.proofs.Worn.{worn-told, worn-unnamed}
 use Rattle.seek.specs.Seeking.{wornBefore, Seekable}

@@ -7,7 +7,7 @@ use mathlib.Core.Logic.{inl, inr}
 use mathlib.Core.Bool.{Bool, true, false, cond}
 use lib.Dec.{ltb}
 use borrow.Author.Tests.{lt-ltb, le-ltb}
-use Rattle.geometry.proofs.Cases.{lt?}
+use Rattle.basics.proofs.Cases.{lt?}
 use Rattle.engine.specs.Round.{skippedOf}
 use Rattle.engine.proofs.GoneBy.{next-in}
 use Rattle.engine.proofs.Skipping.{skip-on, skip-none, skip-most, cut-short}

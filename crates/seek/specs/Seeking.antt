@@ -10,7 +10,7 @@ use lib.ListN.{length, getD, set}
 use Rattle.geometry.specs.declared.Settings.{Settings}
 use Rattle.geometry.specs.Numbering.{slotRow}
 use Rattle.geometry.specs.Entry.{empty}
-use Rattle.banks.specs.Portions.{portion}
+use Rattle.basics.specs.Portions.{portion}
 use Rattle.banks.specs.Banks.{bankOf}
 use Rattle.tracking.specs.Worn.{worn}
 use Rattle.engine.specs.Round.{skippedOf}

@@ -1,1 +1,4 @@
+pub mod Exchange
+pub mod Demand1
 pub mod Served
+pub mod Reached

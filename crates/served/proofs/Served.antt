@@ -14,15 +14,13 @@ use Rattle.engine.specs.Ladder as ladders
 use Rattle.engine.specs.Calls as calls
 use Rattle.engine.proofs.Rungs.{halts, goes-on, applies}
 use Rattle.engine.proofs.Facts.{fit, settings-pass}
-use Rattle.figures.specs.declared.Outcome.{Outcome}
-use Rattle.figures.specs.declared.Span.{Span}
-use Rattle.figures.specs.Promises.{SetUpPromise, AccessPromise}
+use Rattle.figures.specs.Promises.{SetUpPromise, TickPromise}
 use Rattle.figures.specs.Span.{spanOf}
-use Rattle.figures.proofs.Spans.{span-part}
+use Rattle.figures.proofs.Spans.{span-part, span-none}
 use Rattle.history.specs.Run as run
-use Rattle.history.specs.Run.{Each, OneOf}
+use Rattle.basics.specs.Lists.{Each, OneOf}
 use Rattle.history.specs.Chain.{Idle, misfit as lent-misfit, looks, Chain, end, call, idle, Claim, OfChains, CallClaim, AnyCall}
-use Rattle.history.specs.Demand2.{InverseHolds, BytesHold, Usual}
+use Rattle.history.specs.Demand2.{InverseHolds, BytesHold, Usual, GoodAccess}
 use Rattle.history.specs.Demand3.{Demand3Holds}
 use Rattle.history.specs.Window.{WindowHolds}
 use Rattle.history.specs.Estimates.{EstimatesHold}
@@ -34,81 +32,12 @@ use Rattle.history.proofs.Window.{each-window}
 use Rattle.history.proofs.Estimates.{concludes}
 use Rattle.history.proofs.Spent.{spent-late}
 use Rattle.history.proofs.Memory.{returned}
-use Rattle.history.specs.Demand1.{allowed, bufferOf}
-use Rattle.history.proofs.Refusals.{demand-1}
-use Rattle.served.specs.Transcript.{inspectNumber, inspectSpan, read, write, look, Exchange, rank, tick, Promised}
-use Rattle.served.specs.Transcript.{Logged, whole, misfit, Meets, Transcript, answerOf, seen, seenOf}
-use Rattle.served.specs.Claims.{Proper, Demand1Served, OfTranscripts, OfCallsAfter, Demand3Served, WindowServed, Answers3}
-use Rattle.served.specs.Claims.{NumberOccurs, Demand2Served, EstimatesServed, NotSpentEarlyServed, BeginningsServed}
-
--- ---- one exchange
-
--- an exchange with an answer of its own; a span has none
-data Tells : Exchange → Type 0 where
-  tells-read : (row : ℕ) (buffer : List ℕ) (outcome : Outcome) (filled : List ℕ) → Tells (rank (read row buffer outcome filled))
-  tells-write : (row column : ℕ) (bytes : List ℕ) (outcome : Outcome) → Tells (rank (write row column bytes outcome))
-  tells-number : (row number : ℕ) → Tells (rank (look (inspectNumber row number)))
-  tells-tick : (number : ℕ) → Tells (tick number)
-
--- what holds of each exchange with an answer of its own, and of each span, holds of every exchange
-exchange-cases : (P : Exchange → Type 0) → ((x : Exchange) → Tells x → P x)
-    → ((row : ℕ) (span : Span) → P (rank (look (inspectSpan row span)))) → (x : Exchange) → P x
-exchange-cases P tells spans (rank (read row buffer o filled)) = tells _ (tells-read row buffer o filled)
-exchange-cases P tells spans (rank (write row column bytes o)) = tells _ (tells-write row column bytes o)
-exchange-cases P tells spans (rank (look (inspectNumber row number))) = tells _ (tells-number row number)
-exchange-cases P tells spans (rank (look (inspectSpan row span))) = spans row span
-exchange-cases P tells spans (tick number) = tells _ (tells-tick number)
-
-abbrev stepOf : State → run.Answer → run.Step
-stepOf σ answer = record { state = σ; answer = answer }
-
-access-told : (a : calls.Accessed) (after : State) (o : Outcome) (filled : List ℕ) → AccessPromise a after o filled
-    → stepOf after (answerOf o filled) ≡ run.ofAccess a
-access-told a after o filled p = rw (p .0, p .1, p .2)
-
--- what the promise says: the step of the call, as `history` has it
-told : (S : Settings) (before after : State) (x : Exchange) → Tells x → Promised S before x after
-    → stepOf after ((seen x) .answer) ≡ run.step S before ((seen x) .call)
-unfolding run.step
-told S before after x (tells-read row buffer outcome filled) p = access-told (calls.read S before row buffer) after outcome filled p
-told S before after x (tells-write row column bytes outcome) p = access-told (calls.write S before row column bytes) after outcome [] p
-told S before after x (tells-number row number) p = rw (p .0, p .1)
-told S before after x (tells-tick number) p = ap run.ofNoted p
-
--- a look that tells no number
-abbrev silent : run.Look → run.Event
-silent x = record { call = run.rank (run.look x); answer = run.figureless 0 [] }
-
--- what holds of any call on the memory σ, and of a look that tells no number, holds of an exchange there
-exchanged : (S : Settings) (P : run.Event → State → Type 0) (σ σ′ : State)
-    → ((c : run.Call) → P (run.eventOf c (run.step S σ c)) ((run.step S σ c) .state)) → ((x : run.Look) → P (silent x) σ′)
-    → (x : Exchange) → Promised S σ x σ′ → P (seen x) σ′
-exchanged S P σ σ′ answered quiet =
-    exchange-cases (λ x. Promised S σ x σ′ → P (seen x) σ′)
-    (λ x t p. subst (λ (s : run.Step). P (run.eventOf ((seen x) .call) s) (s .state)) (sym (told S σ σ′ x t p)) (answered ((seen x) .call)))
-    (λ row span p. quiet (run.inspect row))
-
--- ---- demand 1
-
-proper : (S : Settings) (before after : State) (x : Exchange) → Tells x → Promised S before x after → Proper before x after
-proper S before after x t p =
-    let c : run.Call = (seen x) .call in
-    let same = told S before after x t p in
-    let number : (seen x) .answer .number ≡ (run.step S before c) .answer .number = ap (λ (s : run.Step). s .answer .number) same in
-    let refusal : (seen x) .answer .number ≢ 0
-    → stepOf after ((seen x) .answer) ≡ stepOf before (run.figureless ((seen x) .answer .number) (bufferOf c)) =
-    λ n. same ∙ demand-1 .refused S before c (λ z. n (number ∙ z))
-    ∙ ap (λ (k : ℕ). stepOf before (run.figureless k (bufferOf c))) (sym number) in
-    record {
-      number = subst (OneOf (allowed c)) (sym number) (demand-1 .number S before c);
-      kept = λ n. ap (λ (s : run.Step). s .state) (refusal n);
-      figures = λ n. ap (λ (s : run.Step). s .answer) (refusal n);
-    }
-
-pub demand-1-served : Demand1Served
-demand-1-served S before after =
-    exchange-cases (λ x. Promised S before x after → Proper before x after) (proper S before after)
-    (λ row span p. record { number = inl refl; kept = λ n. p .1; figures = λ n. absurd (n refl) })
+use Rattle.history.proofs.AfterTick.{accepted-after-tick, nine-is-good}
+use Rattle.served.specs.Transcript.{Exchange, Promised, Logged, whole, misfit, Meets, Transcript, seen, seenOf}
+use Rattle.served.specs.Claims.{OfTranscripts, OfCallsAfter, Demand3Served, WindowServed, Answers3, NumberOccurs, Demand2Served}
+use Rattle.served.specs.Claims.{EstimatesServed, NotSpentEarlyServed, AcceptedAfterTickServed, NineIsGoodServed, BeginningsServed}
+use Rattle.served.proofs.Exchange.{Tells, tells-read, tells-write, tells-number, tells-tick, exchange-cases, stepOf, told, silent, exchanged}
+use Rattle.served.proofs.Demand1.{proper}
 
 -- ---- a call that is lent another length
 
@@ -149,8 +78,7 @@ module _ (S : Settings) (settings : settingsNumber S ≡ 0) (lent : State) (othe
     pub answers : Answers3 x
 
   span-3 : (r : ℕ) → spanOf S lent r ≡ record { start = 0; length = 0 }
-  unfolding spanOf
-  span-3 r = rw (inspect-3 r)
+  span-3 r = sym (span-none S lent r 3 (sym (inspect-3 r)) (λ z. omega arith) _ refl)
 
   answers-3 : (x : Exchange) → Tells x → (seen x) .answer .number ≡ 3 → Answers3 x
   answers-3 x (tells-read row buffer o filled) e = e
@@ -267,3 +195,26 @@ beginnings-served S σ σ′ [] ys t = (σ, (refl, t))
 beginnings-served S σ σ′ (x ∷ xs) ys t =
     let rest = beginnings-served S (t .0) σ′ xs ys (t .1 .1) in
     (rest .0, ((t .0, (t .1 .0, rest .1 .0)), rest .1 .1))
+
+-- ---- after a tick
+
+-- the memory that a tick leaves which answers 0
+after-tick : (S : Settings) (σ between : State) → TickPromise S σ between 0 → stepOf between (run.figureless 0 []) ≡ run.step S σ run.tick
+unfolding run.step
+after-tick S σ between p = ap run.ofNoted p
+
+pub accepted-after-tick-served : AcceptedAfterTickServed
+accepted-after-tick-served S σ between σ′ x sound ticked =
+    let same = after-tick S σ between ticked in
+    let zero : (run.step S σ run.tick) .answer .number ≡ 0 = sym (ap (λ (s : run.Step). s .answer .number) same) in
+    exchanged S (λ e s. GoodAccess S (e .call) → e .answer .number ≡ 0) between σ′
+    (λ c good.
+    subst (λ (s : State). (run.step S s c) .answer .number ≡ 0) (sym (ap (λ (s : run.Step). s .state) same))
+    (accepted-after-tick S σ c sound zero good))
+    (λ y good. absurd good)
+    x
+
+pub nine-is-good-served : NineIsGoodServed
+nine-is-good-served S σ σ′ =
+    exchanged S (λ e s. e .answer .number ≡ 9 → GoodAccess S (e .call)) σ σ′ (nine-is-good S σ)
+    (λ y e. absurd (suc-ne-zero 8 (sym e)))

@@ -1,39 +1,25 @@
--- Demands 1, 2 and 3 of the C functions, the figures of a stretch over one tick, what their estimates tell, and how far an epoch
--- is when one answers 9. The proofs are `demand-1-served` to `demand-3-served`, `window-served`, `estimates-served` and
--- `not-spent-early-served` of proofs/Served.antt.
+-- Demands 2 and 3 of the C functions, the figures of a stretch over one tick, what their estimates tell, how far an epoch is when
+-- one answers 9, and that a call which got 9 is accepted after a tick. The proofs are `demand-2-served`, `demand-3-served`,
+-- `window-served` and so on, of proofs/Served.antt.
 -- Assumes nothing.
 use Prim.Native.Nat.{ℕ, _<_}
 use mathlib.Core.Path.{_≡_}
-use mathlib.Core.Logic.{_≢_}
 use mathlib.Core.List.{List, _++_, map}
-use lib.ListN.{take, drop}
 use Rattle.geometry.specs.declared.Settings.{Settings}
 use Rattle.engine.specs.State.{State}
 use Rattle.engine.specs.Inverse.{Inverse}
 use Rattle.figures.specs.declared.Span.{Span}
-use Rattle.figures.specs.Promises.{SetUpPromise, InspectSpanPromise}
-use Rattle.history.specs.Run.{figureless, Each, OneOf}
+use Rattle.figures.specs.Promises.{SetUpPromise, TickPromise, InspectSpanPromise}
+use Rattle.figures.specs.Span.{spanned}
+use Rattle.basics.specs.Lists.{Each}
 use Rattle.history.specs.Chain.{Claim, CallClaim}
-use Rattle.history.specs.Demand1.{allowed, bufferOf}
-use Rattle.history.specs.Demand2.{Memory, standing, remembered, IsRow, RowsReturned, Usual}
+use Rattle.history.specs.Demand2.{Memory, standing, remembered, IsRow, RowsReturned, Usual, GoodAccess}
 use Rattle.history.specs.Demand3.{Demand3Holds}
 use Rattle.history.specs.Window.{WindowHolds}
 use Rattle.history.specs.Estimates.{EstimatesHold}
 use Rattle.history.specs.Spent.{NotSpentEarlyHolds}
 use Rattle.served.specs.Transcript.{Looked, inspectNumber, inspectSpan, read, write, look, Exchange, rank, tick}
 use Rattle.served.specs.Transcript.{Promised, Logged, whole, misfit, Transcript, seen, seenOf}
-
--- what holds of a call, whatever it was lent: its number is one that document 01 allows it, and a refusal leaves all that
--- was lent and holds nothing beside the number
-pub record Proper (before : State) (x : Exchange) (after : State) : Type 0 where
-  pub number : OneOf (allowed ((seen x) .call)) ((seen x) .answer .number)
-  pub kept : (seen x) .answer .number ≢ 0 → after ≡ before
-  pub figures : (seen x) .answer .number ≢ 0
-      → (seen x) .answer ≡ figureless ((seen x) .answer .number) (bufferOf ((seen x) .call))
-
--- For all settings, arguments and lent memory, sound or not.
-abbrev pub Demand1Served : Type 0
-Demand1Served = (S : Settings) (before after : State) (x : Exchange) → Promised S before x after → Proper before x after
 
 -- For all settings and all lent memory: if `aqua_set_up` answered 0, then P holds of what the caller sees of every
 -- transcript from there.
@@ -81,7 +67,7 @@ pub record Preserved (S : Settings) (mem : Memory) (es : List Logged) (σ′ : S
   pub reads : RowsReturned S mem (map seenOf es)
   -- and every row lies, with its bytes, where `aqua_inspect_span` says
   pub spans : (r : ℕ) → r < S .n → (span : Span) → InspectSpanPromise S σ′ r span
-      → IsRow S (remembered mem (map seenOf es)) r (take (span .length) (drop (span .start) (σ′ .store)))
+      → IsRow S (remembered mem (map seenOf es)) r (spanned span (σ′ .store))
   pub numbers : Each NumberOccurs es
 
 abbrev pub Demand2Served : Type 0
@@ -96,6 +82,17 @@ EstimatesServed = OfCallsAfter EstimatesHold
 -- If the call gets 9, then the epoch is as far as `Spent` of crate `history` says.
 abbrev pub NotSpentEarlyServed : Type 0
 NotSpentEarlyServed = OfCallsAfter NotSpentEarlyHolds
+
+-- 'An access refused with 9 is accepted, given sound tables, if it is the first call after a tick.' In every memory with sound
+-- tables in which `aqua_tick` answers 0, a read or a write whose row and span are good is accepted directly after it;
+abbrev pub AcceptedAfterTickServed : Type 0
+AcceptedAfterTickServed = (S : Settings) (σ between σ′ : State) (x : Exchange) → Inverse S σ → TickPromise S σ between 0
+    → Promised S between x σ′ → GoodAccess S ((seen x) .call) → (seen x) .answer .number ≡ 0
+
+-- and a call that answers 9, on whatever memory, is such a one.
+abbrev pub NineIsGoodServed : Type 0
+NineIsGoodServed = (S : Settings) (σ σ′ : State) (x : Exchange) → Promised S σ x σ′ → (seen x) .answer .number ≡ 9
+    → GoodAccess S ((seen x) .call)
 
 -- Every beginning of a transcript is a transcript, so that demands 2 and 3 hold after every call of it.
 abbrev pub BeginningsServed : Type 0

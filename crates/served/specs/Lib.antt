@@ -1,2 +1,4 @@
 pub mod Transcript
+pub mod Demand1
 pub mod Claims
+pub mod Reached

@@ -13,9 +13,10 @@ use Rattle.geometry.specs.declared.ForwardEntry.{ForwardEntry}
 use Rattle.geometry.specs.declared.ReverseEntry.{ReverseEntry}
 use Rattle.geometry.specs.Numbering.{physical, homeRow, slotRow}
 use Rattle.geometry.specs.Entry.{empty, isEmpty, forwardEntryOf, reverseEntryOf}
-use Rattle.geometry.proofs.Cases.{split}
+use Rattle.basics.proofs.Cases.{split}
 use Rattle.row_layout.specs.Bytes.{copied}
-use Rattle.row_layout.proofs.Laws.{row-before, length-copied}
+use Rattle.basics.proofs.Portions.{portion-before}
+use Rattle.row_layout.proofs.Laws.{length-copied}
 use Rattle.engine.specs.State.{Storage, storageOf, forwardIn}
 use Rattle.engine.specs.Round.{riseTo}
 use Rattle.engine.specs.Steps.{moveInto, left, relocated}
@@ -39,7 +40,7 @@ module _ {p t : ℕ} {x y : PhysicalRow} (from : x ≡ physical p) (to : y ≡ p
       → (x .0 ≢ y .0) × (x .0 * S .w + S .w ≤ length store) × (y .0 * S .w + S .w ≤ length store)
   copy-ready S store long p-in t-in apart =
       rw (from, to)
-      (apart, omega (arith, row-before (S .w) p (S .n + S .q) p-in), omega (arith, row-before (S .w) t (S .n + S .q) t-in))
+      (apart, omega (arith, portion-before (S .w) p (S .n + S .q) p-in), omega (arith, portion-before (S .w) t (S .n + S .q) t-in))
 
   -- and what it leaves
   pub copy-left : (w : ℕ) (store : List ℕ) {after : List ℕ} → after ≡ copied w store (x .0) (y .0) → after ≡ copied w store p t

@@ -7,8 +7,8 @@ use mathlib.Core.Bool.{Bool, true}
 use mathlib.Core.List.{List, [], _∷_}
 use lib.ListN.{length, getD}
 use borrow.Author.Tests.{eqb-true}
-use Rattle.geometry.specs.Lists.{every}
-use Rattle.geometry.proofs.Tests.{and-left, and-right}
+use Rattle.basics.specs.Lists.{every}
+use Rattle.basics.proofs.Tests.{and-left, and-right}
 use Rattle.sizing.specs.declared.Figure.{Figure}
 use Rattle.sizing.specs.declared.Figure.the-variants.{Refused, Value}
 use Rattle.sizing.specs.Sums.{leastSize, sizeRangesHold}

@@ -5,8 +5,8 @@ use mathlib.Core.Bool.{true}
 use native.Mathlib.Nat.{mul-le-mul}
 use native.Mathlib.Omega.{arith}
 use borrow.Author.Tests.{ltb-true}
-use Rattle.geometry.specs.Ranges.{inRange}
-use Rattle.geometry.proofs.Tests.{and-left, and-right, low, high}
+use Rattle.basics.specs.Ranges.{inRange}
+use Rattle.basics.proofs.Tests.{and-left, and-right, low, high}
 use Rattle.sizing.specs.declared.SizeTimes.{SizeTimes}
 use Rattle.sizing.specs.declared.RefreshTimes.{RefreshTimes}
 use Rattle.sizing.specs.Sums.{sizeRangesHold, activationRangesHold}

@@ -3,7 +3,7 @@
 use Prim.Native.Nat.{ℕ, _+_, _-_, _*_, _/_}
 use mathlib.Core.Bool.{Bool, cond, _&&_}
 use lib.Dec.{ltb}
-use Rattle.geometry.specs.Ranges.{inRange}
+use Rattle.basics.specs.Ranges.{inRange}
 use Rattle.conditions.specs.Conditions.{thresholdInRange}
 use Rattle.sizing.specs.declared.SizeTimes.{SizeTimes}
 use Rattle.sizing.specs.declared.RefreshTimes.{RefreshTimes}

@@ -7,8 +7,8 @@ use mathlib.Core.Bool.{true, false, _&&_}
 use mathlib.Core.List.{List}
 use mathlib.Core.Option.{none}
 use lib.ListN.{length}
-use Rattle.geometry.proofs.Cases.{split}
-use Rattle.geometry.proofs.Tests.{and-right}
+use Rattle.basics.proofs.Cases.{split}
+use Rattle.basics.proofs.Tests.{and-right}
 use Rattle.number_text.specs.Numbers.{blank, numbers, readable}
 use Rattle.number_text.proofs.Blank.{blank-no-numbers}
 use Rattle.trace_file.specs.Form.{stepsAt, fileFits, traceIn, isEmptyTrace}

@@ -10,8 +10,8 @@ use lib.Dec.{eqb, leb}
 use lib.ListN.{length, getD, take, drop}
 use lib.Seq.{length-take-le, getD-take, take-add, drop-at}
 use borrow.Author.Tests.{le-leb, lt-leb, leb-true, leb-false, eqb-true, ne-eqb}
-use Rattle.geometry.proofs.Cases.{split}
-use Rattle.geometry.proofs.Tests.{and-left, and-right}
+use Rattle.basics.proofs.Cases.{split}
+use Rattle.basics.proofs.Tests.{and-left, and-right}
 use Rattle.number_text.specs.Numbers.{numbers, readable, numbersWithin}
 use Rattle.trace_file.specs.Form.{firstCount, secondCount, stepsAt, isFirstCount, hasSections, banksIn, settingsOf, sections}
 use Rattle.trace_file.specs.Form.{mostNumbers, traceIn, traceWithin, StepsWithin}

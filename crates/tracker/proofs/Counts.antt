@@ -6,8 +6,8 @@ use mathlib.Core.Path.{_≡_, ap, _∙_}
 use mathlib.Core.List.{List}
 use lib.ListN.{length, getD}
 use Rattle.banks.specs.declared.Bank.{Bank}
-use Rattle.banks.specs.Portions.{portion}
-use Rattle.banks.proofs.Portions.{length-portion, getD-portion}
+use Rattle.basics.specs.Portions.{portion}
+use Rattle.basics.proofs.Portions.{length-portion, getD-portion}
 use Rattle.scan.proofs.Loops.{counts-below}
 use Rattle.tracking.specs.Entry.{entryIn}
 use Rattle.tracker.specs.Finding.{entryFor, Findable, Countable}

@@ -9,7 +9,7 @@ use lib.Dec.{ltb}
 use lib.ListN.{length, getD}
 use Rattle.scan.specs.Scan.{some}
 use Rattle.banks.specs.declared.Bank.{Bank}
-use Rattle.banks.specs.Portions.{portion}
+use Rattle.basics.specs.Portions.{portion}
 use Rattle.tracking.specs.Entry.{entryIn, estimateAt}
 use Rattle.tracker.specs.declared.Update.{Update}
 

@@ -7,9 +7,9 @@ use mathlib.Core.List.{List}
 use lib.Dec.{eqb}
 use lib.ListN.{length}
 use borrow.Author.Tests.{lt-ltb, le-ltb, eqb-false}
-use Rattle.geometry.proofs.Cases.{split, lt?}
-use Rattle.banks.specs.Portions.{portion, withPortion}
-use Rattle.banks.proofs.Portions.{length-portion, getD-portion, set-portion, portion-own}
+use Rattle.basics.proofs.Cases.{split, lt?}
+use Rattle.basics.specs.Portions.{portion, withPortion}
+use Rattle.basics.proofs.Portions.{length-portion, getD-portion, set-portion, portion-own}
 use Rattle.scan.specs.Scan.{indexOf}
 use Rattle.tracking.specs.Track.{Tracked, track}
 use Rattle.tracking.specs.Entry.{entryOf, entryIn, estimateAt, tableAfter, spillAfter}

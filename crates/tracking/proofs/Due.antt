@@ -7,8 +7,8 @@ use mathlib.Core.Logic.{inl, inr, _≢_}
 use mathlib.Core.Bool.{true, false, not}
 use lib.Dec.{eqb}
 use borrow.Author.Tests.{eqb-true, eqb-false, ne-eqb, not-true}
-use Rattle.geometry.proofs.Cases.{split, lt?}
-use Rattle.geometry.proofs.Tests.{and-left, and-right}
+use Rattle.basics.proofs.Cases.{split, lt?}
+use Rattle.basics.proofs.Tests.{and-left, and-right}
 use Rattle.tracking.specs.Track.{isDue}
 
 -- there is one

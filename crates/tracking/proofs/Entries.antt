@@ -8,7 +8,7 @@ use lib.Dec.{eqb, eqb·suc-zero}
 use lib.ListN.{length, getD, set, length-set}
 use lib.Seq.{set-getD}
 use borrow.Author.Tests.{lt-ltb, le-ltb}
-use Rattle.geometry.proofs.Cases.{split, lt?}
+use Rattle.basics.proofs.Cases.{split, lt?}
 use Rattle.scan.specs.Scan.{indexOf}
 use Rattle.scan.proofs.Scans.{index-found}
 use Rattle.tracking.specs.Track.{Tracked, track}

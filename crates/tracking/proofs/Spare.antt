@@ -8,7 +8,7 @@ use mathlib.Core.List.{List, [], _∷_}
 use lib.Dec.{ltb}
 use lib.ListN.{length, getD, set, replicate, List·getD-eq-default}
 use borrow.Author.Tests.{lt-ltb, le-ltb}
-use Rattle.geometry.proofs.Cases.{eq?, lt?}
+use Rattle.basics.proofs.Cases.{eq?, lt?}
 use Rattle.scan.specs.Scan.{indexOf}
 use Rattle.scan.proofs.Scans.{index-found, index-none}
 use Rattle.tracking.specs.Track.{Tracked, track}

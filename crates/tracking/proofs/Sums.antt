@@ -10,9 +10,9 @@ use lib.Dec.{eqb}
 use lib.ListN.{length, getD, set, take, drop, replicate}
 use lib.Seq.{take-all, take-add}
 use borrow.Author.Tests.{ne-eqb}
-use Rattle.geometry.proofs.Cases.{lt?}
-use Rattle.banks.specs.Portions.{portion, withPortion}
-use Rattle.banks.proofs.Portions.{length-portion, portion-own}
+use Rattle.basics.proofs.Cases.{lt?}
+use Rattle.basics.specs.Portions.{portion, withPortion}
+use Rattle.basics.proofs.Portions.{length-portion, portion-own}
 
 unfoldable pub sumBy : (ℕ → ℕ) → List ℕ → ℕ
 sumBy f [] = 0

@@ -11,7 +11,7 @@ use lib.ListN.{length, getD, set, length-set, List·getD-eq-default}
 use lib.Seq.{getD-set-same, getD-set-other}
 use borrow.Author.Tests.{lt-ltb, le-ltb}
 use Rattle.geometry.specs.Entry.{empty}
-use Rattle.geometry.proofs.Cases.{eq?, lt?}
+use Rattle.basics.proofs.Cases.{eq?, lt?}
 use Rattle.scan.specs.Scan.{indexOf}
 use Rattle.tracking.specs.Track.{Tracked, raised, taken, spilled, track, isDue}
 use Rattle.scan.proofs.Scans.{lowest-le, index-found, index-none, index-miss, index-set-other, index-set-new, index-apart}

@@ -11,7 +11,7 @@ use mathlib.Core.List.{List}
 use lib.ListN.{length, getD, replicate, getD-replicate, length-replicate}
 use borrow.Author.Tests.{ne-eqb}
 use Rattle.geometry.specs.Entry.{empty}
-use Rattle.geometry.proofs.Cases.{lt?}
+use Rattle.basics.proofs.Cases.{lt?}
 use Rattle.scan.specs.Scan.{indexOf}
 use Rattle.tracking.specs.Track.{Tracked, track, isDue}
 use Rattle.tracking.proofs.Sums.{total, quotients, sum-zeros, total-low, total-high, quotients-low}

@@ -12,7 +12,7 @@ use lib.ListN.{length, getD, set, drop, length-set, drop-of-length-le, List·get
 use lib.Seq.{drop-cons, getD-set-same, getD-set-other}
 use borrow.Author.Tests.{eq-eqb, ne-eqb, lt-ltb, le-ltb, le-leb, lt-leb}
 use Rattle.geometry.specs.Entry.{empty}
-use Rattle.geometry.proofs.Cases.{split, lt?}
+use Rattle.basics.proofs.Cases.{split, lt?}
 use Rattle.scan.specs.Scan.{lowest, indexOf}
 use Rattle.scan.proofs.Scans.{lowest-le, index-found, index-set-other, index-set-either, index-set-new}
 use Rattle.tracking.specs.Track.{Tracked, track, isDue}

@@ -6,7 +6,7 @@ use mathlib.Core.List.{List}
 use lib.Dec.{ltb, eqb}
 use lib.ListN.{length, getD, set}
 use Rattle.scan.specs.Scan.{indexOf}
-use Rattle.banks.specs.Portions.{portion}
+use Rattle.basics.specs.Portions.{portion}
 
 -- the entry that step 2 changes at place p: the lowest that names it, else the lowest whose count is `spill`; as many as there
 -- are entries where there is none such

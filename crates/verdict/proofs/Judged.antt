@@ -9,7 +9,7 @@ use lib.Dec.{eqb, ltb}
 use borrow.Author.Tests.{lt-ltb, le-ltb, eq-eqb, eqb-true, ne-eqb}
 use Rattle.geometry.specs.declared.Settings.{Settings}
 use Rattle.geometry.specs.declared.Ring.{Ring}
-use Rattle.geometry.proofs.Cases.{split, lt?}
+use Rattle.basics.proofs.Cases.{split, lt?}
 use Rattle.engine.specs.declared.Asked.{Asked}
 use Rattle.engine.specs.State.{Tables, reverseIn, State, trackerAt, ringOf}
 use Rattle.engine.specs.Round.{skippedOf, destinationFrom}

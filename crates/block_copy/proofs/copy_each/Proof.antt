@@ -2,7 +2,7 @@
 use Prim.Native.Nat.{_-_}
 use lib.ListN.{drop}
 use borrow.Author.Needs.{needs}
-use Rattle.block_put.proofs.Pasting.{Pasting, pasting-none, pasting-all}
+use Rattle.basics.proofs.Pasting.{Pasting, pasting-none, pasting-all}
 use Rattle.block_copy.proofs.Copying.{copying-more}
 use Rattle.block_copy.proofs.copy_each.Statement.{statement}
 use Rattle.block_copy.proofs.copy_each.Tie as tie

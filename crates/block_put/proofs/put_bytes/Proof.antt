@@ -2,7 +2,7 @@
 use Prim.Native.Nat.{_+_, _-_}
 use lib.ListN.{length}
 use borrow.Author.Needs.{needs}
-use Rattle.block_put.proofs.Pasting.{Pasting, pasting-none, pasting-part, pasting-all}
+use Rattle.basics.proofs.Pasting.{Pasting, pasting-none, pasting-part, pasting-all}
 use Rattle.block_put.proofs.put_bytes.Statement.{statement}
 use Rattle.block_put.proofs.put_bytes.Tie as tie
 

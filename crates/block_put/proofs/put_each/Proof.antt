@@ -3,7 +3,7 @@ use Prim.Native.Nat.{_-_}
 use mathlib.Core.Path.{refl}
 use lib.ListN.{length}
 use borrow.Author.Needs.{needs}
-use Rattle.block_put.proofs.Pasting.{Pasting, pasting-none, pasting-more, pasting-all}
+use Rattle.basics.proofs.Pasting.{Pasting, pasting-none, pasting-more, pasting-all}
 use Rattle.block_put.proofs.put_each.Statement.{statement}
 use Rattle.block_put.proofs.put_each.Tie as tie
 

@@ -4,7 +4,7 @@ use lib.ListN.{length}
 use native.Mathlib.Omega.{arith}
 use borrow.Author.Needs.{needs}
 use Rattle.geometry.specs.Entry.{empty}
-use Rattle.geometry.proofs.Fills.{Filled, filled-none, filled-more, filled-all}
+use Rattle.basics.proofs.Fills.{Filled, filled-none, filled-more, filled-all}
 use Rattle.geometry.proofs.clear_entries.Statement.{statement}
 use Rattle.geometry.proofs.clear_entries.Tie as tie
 

@@ -6,9 +6,9 @@ use mathlib.Core.List.{List}
 use native.Mathlib.Omega.{arith}
 use lib.ListN.{length, getD}
 use Rattle.geometry.specs.declared.Settings.{Settings}
-use Rattle.geometry.specs.Ranges.{someBelow}
-use Rattle.geometry.proofs.Below.{below-more}
-use Rattle.banks.proofs.Portions.{portion-lent, portion-fits}
+use Rattle.basics.specs.Ranges.{someBelow}
+use Rattle.basics.proofs.Below.{below-more}
+use Rattle.basics.proofs.Portions.{portion-lent, portion-fits}
 use Rattle.engine.specs.Ladder.{trackerUnsound, bankUnsound}
 use Rattle.ladder.specs.Stages.{othersUnsound}
 use borrow.Author.Needs.{needs}

@@ -1,5 +1,5 @@
 -- `settings_number` answers row by row of the table. Assumes nothing.
-use Rattle.geometry.proofs.Tests.{told-not, told-yes}
+use Rattle.basics.proofs.Tests.{told-not, told-yes}
 use Rattle.engine.specs.Ladder.{settingsNumber, stops, _▹_}
 use borrow.Author.Needs.{needs}
 use Rattle.ladder.proofs.settings_number.Statement.{statement}

@@ -26,7 +26,7 @@ returns : tie.Need-returns
 returns c =
     let n = c .before .before in
     let b = begun n in
-    part-none (b .args .s) (lent b) (b .args .row) _ (n .inspect-number .ensures) (c .before .if1 .taken)
+    part-none (b .args .s) (lent b) (b .args .row) _ (n .inspect-number .ensures) (b .args .store) _ (c .before .if1 .taken) refl refl
 
 place-of-requires : tie.Need-place-of-requires
 place-of-requires c κs =
@@ -46,8 +46,8 @@ returns-2 c =
     let p = c .before .before in
     let e = accepted p in
     let b = begun (e .before) in
-    part-row (b .args .s) (lent b) (b .args .row) _ (e .before .inspect-number .ensures) (e .if1 .left) _ (p .place-of .ensures)
-    _ (c .row-part .ensures)
+    part-row (b .args .s) (lent b) (b .args .row) _ (e .before .inspect-number .ensures) (b .args .store) _ (e .if1 .left)
+    _ (p .place-of .ensures) (c .row-part .ensures .0) (c .row-part .ensures .1)
 
 pub inspect-part-spec : {M : Type 1} → statement M
 inspect-part-spec =

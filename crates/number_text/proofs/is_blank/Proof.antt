@@ -3,7 +3,7 @@ use Prim.Native.Nat.{_-_, _≤_}
 use mathlib.Core.Path.{_≡_, refl, sym, _∙_}
 use lib.ListN.{length, drop}
 use borrow.Author.Needs.{needs}
-use Rattle.geometry.proofs.Tests.{told-not, told-yes}
+use Rattle.basics.proofs.Tests.{told-not, told-yes}
 use Rattle.number_text.specs.Numbers.{blank}
 use Rattle.number_text.proofs.Blank.{gap-passed, no-gap, all-passed}
 use Rattle.number_text.proofs.is_blank.Statement.{statement}

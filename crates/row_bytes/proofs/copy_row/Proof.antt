@@ -2,7 +2,7 @@
 use native.Mathlib.Omega.{arith}
 use borrow.Author.Needs.{needs}
 use Rattle.row_layout.specs.Bytes.{copied}
-use Rattle.row_layout.proofs.Laws.{rows-apart}
+use Rattle.basics.proofs.Portions.{portions-apart}
 use Rattle.row_bytes.proofs.copy_row.Statement.{statement}
 use Rattle.row_bytes.proofs.copy_row.Tie as tie
 
@@ -16,7 +16,7 @@ copy-within-requires : tie.Need-copy-within-requires
 copy-within-requires c κs =
     let a = c .before .before .args in
     let pre = c .before .before .pre in
-    (omega arith, omega arith, rows-apart (a .w) (a .target .0) (a .source .0) (pre .0))
+    (omega arith, omega arith, portions-apart (a .w) (a .target .0) (a .source .0) (pre .0))
 
 same-length : tie.Need-same-length
 same-length c = search needs

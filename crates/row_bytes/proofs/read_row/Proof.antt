@@ -3,7 +3,7 @@ use native.Mathlib.Omega.{arith}
 use mathlib.Core.Path.{_≡_, sym, ap, _∙_}
 use lib.ListN.{length}
 use borrow.Author.Needs.{needs}
-use Rattle.block_put.proofs.Pastes.{paste-over}
+use Rattle.basics.proofs.Pastes.{paste-over}
 use Rattle.row_layout.proofs.Laws.{length-row}
 use Rattle.row_bytes.proofs.read_row.Statement.{statement}
 use Rattle.row_bytes.proofs.read_row.Tie as tie
@@ -17,7 +17,7 @@ module _ (p : tie.After-row-part) where
   fits =
       let a = p .before .before .before .args in
       let pre = p .before .before .before .pre in
-      pre .0 ∙ sym (ap length (p .row-part .ensures) ∙ length-row (a .w) (a .store .now) (a .place .0) (pre .1))
+      pre .0 ∙ sym (ap length (p .row-part .ensures .0) ∙ length-row (a .w) (a .store .now) (a .place .0) (pre .1))
 
 put-bytes-requires : tie.Need-put-bytes-requires
 put-bytes-requires c κs = omega (arith, fits (c .before))
@@ -28,7 +28,7 @@ same-length c = search needs
 returns : tie.Need-returns
 returns c =
     let p = c .before .before .before .before in
-    c .before .before .put-bytes .ensures ∙ paste-over _ _ (fits p) ∙ p .row-part .ensures
+    c .before .before .put-bytes .ensures ∙ paste-over _ _ (fits p) ∙ p .row-part .ensures .0
 
 pub read-row-spec : {M : Type 1} → statement M
 read-row-spec = tie.close (tie.spec row-part-requires put-bytes-requires same-length returns)

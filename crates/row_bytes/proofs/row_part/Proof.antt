@@ -1,6 +1,6 @@
 -- `row_bytes::row_part` meets its contract: the part from start to start + w has w bytes. Assumes nothing.
 use Prim.Native.Nat.{ℕ, _+_, _-_, _*_}
-use mathlib.Core.Path.{_≡_, ap}
+use mathlib.Core.Path.{_≡_, refl, ap}
 use native.Mathlib.Omega.{arith}
 use lib.ListN.{take, drop}
 use borrow.Author.Needs.{needs}
@@ -29,7 +29,7 @@ returns c =
     let a = c .before .args in
     let start = a .place .0 * a .w in
     let e : start + a .w - start ≡ a .w = omega arith in
-    ap (λ (k : ℕ). take k (drop start (a .store .now))) e
+    (ap (λ (k : ℕ). take k (drop start (a .store .now))) e, refl)
 
 pub row-part-spec : {M : Type 1} → statement M
 row-part-spec =

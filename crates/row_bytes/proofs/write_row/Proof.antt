@@ -4,7 +4,7 @@ use Prim.Native.Nat.{_+_, _*_}
 use lib.ListN.{length}
 use borrow.Author.Needs.{needs}
 use Rattle.row_layout.specs.Bytes.{written}
-use Rattle.block_put.proofs.Pastes.{paste-part}
+use Rattle.basics.proofs.Pastes.{paste-part}
 use Rattle.row_bytes.proofs.write_row.Statement.{statement}
 use Rattle.row_bytes.proofs.write_row.Tie as tie
 

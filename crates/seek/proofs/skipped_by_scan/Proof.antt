@@ -2,7 +2,7 @@
 use Prim.Native.Nat.{_-_}
 use native.Mathlib.Omega.{arith}
 use borrow.Author.Needs.{needs}
-use Rattle.geometry.proofs.Tests.{told-not, told-yes}
+use Rattle.basics.proofs.Tests.{told-not, told-yes}
 use Rattle.seek.specs.Seeking.{skipsBefore}
 use Rattle.seek.proofs.Turns.{Turned, turned-none, turned-more, turned-free, turned-all}
 use Rattle.seek.proofs.skipped_by_scan.Statement.{statement}

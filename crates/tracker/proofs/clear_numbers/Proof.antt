@@ -3,7 +3,7 @@ use Prim.Native.Nat.{_-_}
 use lib.ListN.{length}
 use native.Mathlib.Omega.{arith}
 use borrow.Author.Needs.{needs}
-use Rattle.geometry.proofs.Fills.{Filled, filled-none, filled-more, filled-all}
+use Rattle.basics.proofs.Fills.{Filled, filled-none, filled-more, filled-all}
 use Rattle.tracker.proofs.clear_numbers.Statement.{statement}
 use Rattle.tracker.proofs.clear_numbers.Tie as tie
 

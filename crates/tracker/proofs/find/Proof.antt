@@ -5,8 +5,8 @@ use mathlib.Core.Path.{_≡_, ap, _∙_}
 use mathlib.Core.List.{List}
 use lib.Dec.{eqb}
 use lib.ListN.{length}
-use Rattle.banks.specs.Portions.{portion}
-use Rattle.banks.proofs.Portions.{portion-lent, length-portion}
+use Rattle.basics.specs.Portions.{portion}
+use Rattle.basics.proofs.Portions.{portion-lent, length-portion}
 use Rattle.scan.specs.Scan.{indexOf}
 use Rattle.scan.proofs.Scans.{lowest-le}
 use Rattle.tracking.proofs.Banks.{entry-named, entry-free}

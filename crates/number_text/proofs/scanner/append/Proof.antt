@@ -1,6 +1,6 @@
 -- `number_text::scanner::append` meets its contract. Assumes nothing.
 use borrow.Author.Needs.{needs}
-use Rattle.geometry.proofs.Tests.{low}
+use Rattle.basics.proofs.Tests.{low}
 use Rattle.number_text.proofs.scanner.append.Statement.{statement}
 use Rattle.number_text.proofs.scanner.append.Tie as tie
 

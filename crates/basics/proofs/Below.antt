@@ -6,9 +6,9 @@ use native.Mathlib.Omega.{arith}
 use mathlib.Core.Path.{_≡_, refl, ap, _∙_}
 use mathlib.Core.Logic.{inl, inr}
 use mathlib.Core.Bool.{Bool, true, false, _||_}
-use Rattle.geometry.specs.Ranges.{someBelow}
-use Rattle.geometry.proofs.Cases.{eq?}
-use Rattle.geometry.proofs.Tests.{or-left, or-right}
+use Rattle.basics.specs.Ranges.{someBelow}
+use Rattle.basics.proofs.Cases.{eq?}
+use Rattle.basics.proofs.Tests.{or-left, or-right}
 
 -- one number more is tested
 pub below-more : (test : ℕ → Bool) (c : ℕ) {found next : Bool} → found ≡ someBelow test c → next ≡ test c → (found || next) ≡ someBelow test (c + 1)

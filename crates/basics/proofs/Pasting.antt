@@ -8,7 +8,7 @@ use native.Mathlib.Numerals.{add-one}
 use native.Mathlib.Nat.{add-sub-of-le}
 use lib.ListN.{length, getD, take, drop, set, length-set, length-drop}
 use lib.Seq.{paste, paste-zero, paste-suc, length-paste, length-take-le, take-take}
-use Rattle.block_put.proofs.Pastes.{paste-out, paste-alike, paste-further}
+use Rattle.basics.proofs.Pastes.{paste-out, paste-alike, paste-further}
 
 -- l is d after i of the n turns that write the elements of s from index `at` on
 pub record Pasting (d : List ℕ) (at : ℕ) (s : List ℕ) (n : ℕ) (l : List ℕ) (i : ℕ) : Type 0 where

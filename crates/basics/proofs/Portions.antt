@@ -1,20 +1,30 @@
 -- Laws of portions: each is its own, whatever is done to another. Assumes nothing.
 use Prim.Native.Nat.{ℕ, _+_, _-_, _*_, _<_, _≤_}
-use native.Mathlib.Nat.{add-sub-of-le}
+use native.Mathlib.Nat.{suc-mul, mul-le-mul-right, add-sub-of-le}
 use native.Mathlib.Omega.{arith}
 use mathlib.Core.Path.{_≡_, refl, sym, ap, _∙_}
 use mathlib.Core.Logic.{_⊎_, inl, inr, _≢_}
 use mathlib.Core.List.{List}
 use lib.ListN.{length, getD, set, take, drop, replicate, length-drop, length-set, length-replicate, getD-replicate}
 use lib.Seq.{take-add, drop-at, length-paste, length-take-le, getD-take, getD-drop, ext-getD, take-set-lt, drop-set-add, getD-set-same, getD-set-other}
-use Rattle.geometry.proofs.Cases.{eq?, lt?}
-use Rattle.block_put.proofs.Pastes.{paste-in, paste-out}
-use Rattle.row_layout.proofs.Laws.{row-before, row-apart}
-use Rattle.banks.specs.Portions.{portion, withPortion}
+use Rattle.basics.proofs.Cases.{eq?, lt?}
+use Rattle.basics.proofs.Pastes.{paste-in, paste-out}
+use Rattle.basics.specs.Portions.{portion, withPortion}
+
+-- portions do not overlap: one before another ends before it starts
+pub portion-before : (k c d : ℕ) → c < d → c * k + k ≤ d * k
+portion-before k c d h = omega (arith, suc-mul c k, mul-le-mul-right k h)
+
+pub portions-apart : (k c d : ℕ) → d ≢ c → (d * k + k ≤ c * k) ⊎ (c * k + k ≤ d * k)
+portions-apart k c d other = elim (lt? d c) [ inl before ↦ inl (portion-before k d c before) | inr behind ↦ inr (portion-before k c d (omega arith)) ]
+
+-- so each element of portion d lies before portion c or behind it
+pub portion-apart : (k c d i : ℕ) → d ≢ c → i < k → (d * k + i < c * k) ⊎ (c * k + k ≤ d * k + i)
+portion-apart k c d i other h = elim (portions-apart k c d other) [ inl before ↦ inl (omega arith) | inr behind ↦ inr (omega arith) ]
 
 -- portion c of b is in a buffer of b portions
 pub portion-fits : (k b c n : ℕ) → n ≡ b * k → c < b → c * k + k ≤ n
-portion-fits k b c n long inside = omega (arith, row-before k c b inside)
+portion-fits k b c n long inside = omega (arith, portion-before k c b inside)
 
 -- a portion as it is lent, from its start to its end
 pub portion-lent : (k c : ℕ) (xs : List ℕ) → take (c * k + k - c * k) (drop (c * k) xs) ≡ portion k c xs
@@ -74,7 +84,7 @@ module _ (k c : ℕ) (xs : List ℕ) (fits : c * k + k ≤ length xs) (new : Lis
       ext-getD 0 (portion k d (withPortion k c xs new)) (portion k d xs) (long ∙ sym (length-portion k d xs room))
       (λ i b.
       getD-portion k d (withPortion k c xs new) (omega (arith, long-after)) i 0 (omega (arith, long))
-      ∙ at-old k c xs fits new same (d * k + i) (row-apart k c d i n (omega (arith, long)))
+      ∙ at-old k c xs fits new same (d * k + i) (portion-apart k c d i n (omega (arith, long)))
       ∙ sym (getD-portion k d xs room i 0 (omega (arith, long))))
 
 module _ (k c : ℕ) (xs : List ℕ) (fits : c * k + k ≤ length xs) where
@@ -127,11 +137,11 @@ module _ (k c : ℕ) (xs : List ℕ) (fits : c * k + k ≤ length xs) where
 -- every portion of a buffer that holds one number
 pub portion-replicate : (k b c x : ℕ) → c < b → portion k c (replicate (b * k) x) ≡ replicate k x
 portion-replicate k b c x inside =
-    let room : c * k + k ≤ length (replicate {0} (b * k) x) = omega (arith, length-replicate (b * k) x, row-before k c b inside) in
+    let room : c * k + k ≤ length (replicate {0} (b * k) x) = omega (arith, length-replicate (b * k) x, portion-before k c b inside) in
     let long : length (portion k c (replicate (b * k) x)) ≡ k = length-portion k c (replicate (b * k) x) room in
     ext-getD 0 (portion k c (replicate (b * k) x)) (replicate k x) (long ∙ sym (length-replicate k x))
     (λ i h.
     let i-in : i < k = omega (arith, long) in
     getD-portion k c (replicate (b * k) x) room i 0 i-in
-    ∙ getD-replicate (b * k) (c * k + i) x 0 (omega (arith, row-before k c b inside))
+    ∙ getD-replicate (b * k) (c * k + i) x 0 (omega (arith, portion-before k c b inside))
     ∙ sym (getD-replicate k i x 0 i-in))

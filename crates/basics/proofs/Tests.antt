@@ -4,7 +4,7 @@ use mathlib.Core.Path.{_≡_, refl, sym, _∙_}
 use mathlib.Core.Bool.{Bool, true, false, not, _&&_, _||_, true≢false, false≢true}
 use lib.Dec.{leb}
 use borrow.Author.Tests.{leb-true, le-leb, not-true, not-false}
-use Rattle.geometry.specs.Ranges.{inRange}
+use Rattle.basics.specs.Ranges.{inRange}
 
 -- a call ensures that its result is the test t, and the branch on `!result` was taken: t failed
 pub told-not : {a t : Bool} → a ≡ t → not a ≡ true → t ≡ false

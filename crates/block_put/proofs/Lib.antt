@@ -1,2 +1,0 @@
-pub mod Pastes
-pub mod Pasting

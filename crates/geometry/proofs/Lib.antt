@@ -1,4 +1,0 @@
-pub mod Cases
-pub mod Tests
-pub mod Fills
-pub mod Below
