@@ -74,10 +74,12 @@ typedef struct {
     uint64_t place;    /* the physical row that was opened */
 } aqua_outcome;
 
-/* What the estimate of an accepted access tells, whatever calls were made since set-up. The row was moved exactly where the
- * estimate is not 0 and settings.a divides it. Accesses opened place in this epoch, this one included, at most estimate
- * times and at least estimate - spill times; where the estimate is 0, at most spill times. Here spill is that of the
- * bank of place, control.spill[place % settings.b], as the access left it; it is below settings.a. */
+/* What the estimate of an accepted access tells, whatever calls were made since set-up. It is at most settings.a, and the
+ * row was moved exactly where it is settings.a. After an estimate e other than 0 accesses open place at most settings.a - e
+ * times more in this epoch, and the (settings.a - e)-th of them moves its row. Accesses opened place in this epoch, this
+ * one included, at most estimate times and at least estimate - spill times; where the estimate is 0, at most spill times.
+ * Here spill is that of the bank of place, control.spill[place % settings.b], as the access left it; it is below
+ * settings.a. */
 
 /* Where a part of the store lies. */
 typedef struct {

@@ -7,7 +7,6 @@
 use Prim.Native.Nat.{ℕ}
 use mathlib.Core.Path.{_≡_}
 use mathlib.Core.List.{List, []}
-use denote.Ref.{RefT, now, ptr}
 use Rattle.geometry.specs.declared.Settings.{Settings}
 use Rattle.engine.specs.State.{State}
 use Rattle.engine.specs.Ladder as ladder
@@ -45,8 +44,8 @@ InspectNumberPromise S lent row number = number ≡ ladder.inspectNumber S lent 
 abbrev pub InspectSpanPromise : Settings → State → ℕ → Span → Type 0
 InspectSpanPromise S lent row span = span ≡ spanOf S lent row
 
--- `inspect_part`, for Rattle; store, part: the lent store and what is returned. The part holds the row's bytes, and it lies where
--- the span says
-abbrev pub InspectPartPromise : Settings → State → ℕ → RefT (List ℕ) → RefT (List ℕ) → Type 0
-InspectPartPromise S lent row store part =
-    (now part ≡ inspectPart S lent row) × (ptr part ≡ spanAddress (spanOf S lent row) (ptr store))
+-- `inspect_part`, for Rattle: the bytes of the part that is returned are the row's, and its address is where the span begins in the
+-- store; store: the address of the lent store
+abbrev pub InspectPartPromise : Settings → State → ℕ → ℕ × ℕ → List ℕ → ℕ × ℕ → Type 0
+InspectPartPromise S lent row store bytes address =
+    (bytes ≡ inspectPart S lent row) × (address ≡ spanAddress (spanOf S lent row) store)

@@ -19,7 +19,7 @@ use Rattle.engine.proofs.Pointers.{Sound}
 use Rattle.engine.proofs.Trackers.{all-new}
 use Rattle.history.specs.Tally.{Tally, startAt}
 use Rattle.history.specs.Run.{access, look, Call, rank, tick, askedOf}
-use Rattle.history.specs.Demand2.{GoodAccess, NineIsGood, AcceptedAfterTick}
+use Rattle.history.specs.AfterTick.{GoodAccess, NineIsGood, AcceptedAfterTick}
 use Rattle.history.proofs.Groups.{ladder, step-number, at-9, accepted-step}
 use Rattle.history.proofs.Invariant.{Inv}
 use Rattle.history.proofs.Access.{wanting-few}

@@ -2,7 +2,7 @@
 -- Assumes nothing.
 use Prim.Native.Nat.{ℕ, _+_, _-_, _*_, _<_}
 use mathlib.Core.Path.{_≡_}
-use mathlib.Core.Bool.{false, cond, _&&_}
+use mathlib.Core.Bool.{cond, _&&_}
 use mathlib.Core.List.{List, [], _∷_}
 use lib.Dec.{ltb, leb, eqb}
 use lib.ListN.{length, getD}
@@ -11,9 +11,9 @@ use Rattle.geometry.specs.Numbering.{homeRow}
 use Rattle.engine.specs.State.{State}
 use Rattle.engine.specs.Calls.{inspectPart}
 use Rattle.engine.specs.Inverse.{Inverse}
-use Rattle.history.specs.Run.{Access, read, write, access, look, Call, rank, tick, rowOf, spanOff}
+use Rattle.history.specs.Run.{Access, read, write, access, look, Call, rank, tick}
 use Rattle.basics.specs.Lists.{Each, OneOf}
-use Rattle.history.specs.Run.{Answer, Event, step, OfAccepted}
+use Rattle.history.specs.Run.{Answer, Event, OfAccepted}
 use Rattle.history.specs.Chain.{Claim, OfLists, CallClaim}
 
 -- ---- 'forward and reverse tables are inverse'
@@ -98,20 +98,3 @@ UsualHolds S es e σ = Usual e
 
 abbrev pub OnlyUsual : Type 0
 OnlyUsual = OfLists (λ S blank es σ. Each Usual es)
-
--- ---- 'An access refused with 9 is accepted, given sound tables, if it is the first call after a tick.'
-
--- a read or a write whose row and span are good: neither 5, 'row ≥ N', nor 6 applies
-abbrev pub GoodAccess : Settings → Call → Type 0
-GoodAccess S (rank (access a)) = (rowOf a < S .n) × (spanOff S a ≡ false)
-GoodAccess S (rank (look x)) = ⊥
-GoodAccess S tick = ⊥
-
--- an access that is refused with 9 has a good row and a good span
-abbrev pub NineIsGood : Type 0
-NineIsGood = (S : Settings) (σ : State) (c : Call) → (step S σ c) .answer .number ≡ 9 → GoodAccess S c
-
--- in every state with sound tables in which a tick is accepted, such an access is accepted as the first call after it
-abbrev pub AcceptedAfterTick : Type 0
-AcceptedAfterTick = (S : Settings) (σ : State) (c : Call) → Inverse S σ → (step S σ tick) .answer .number ≡ 0
-    → GoodAccess S c → (step S ((step S σ tick) .state) c) .answer .number ≡ 0

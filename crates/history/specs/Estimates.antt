@@ -62,7 +62,8 @@ pub record Conclusions (S : Settings) (accesses latest between spill : ℕ) (ans
   pub stayed : answer .slot ≡ empty → answer .estimate ≢ S .a
   -- the estimates of one place rise strictly (0 may stand between them), by at least one for each access
   pub rises : answer .estimate ≢ 0 → latest + between < answer .estimate
-  -- so after an estimate e accesses open the place at most A − e times more in this epoch, and the last of these moves the row
+  -- so after an estimate e accesses open the place at most A − e times more in this epoch, and the (A − e)-th of them moves its
+  -- row
   pub further : latest + suc between ≤ S .a
   pub last : latest + suc between ≡ S .a → answer .estimate ≡ S .a
   -- an estimate is at least the accesses of the place, and exceeds them by at most `spill`

@@ -3,6 +3,7 @@ pub mod Run
 pub mod Chain
 pub mod Demand1
 pub mod Demand2
+pub mod AfterTick
 pub mod Demand3
 pub mod Window
 pub mod Tight

@@ -4,7 +4,6 @@ use native.Mathlib.Nat.{zero-add}
 use mathlib.Core.Path.{_≡_, refl, sym, ap, _∙_}
 use mathlib.Core.Logic.{_≢_}
 use mathlib.Core.List.{List, []}
-use denote.Ref.{RefT, now, ptr}
 use borrow.Author.Tests.{ne-eqb}
 use Rattle.geometry.specs.declared.Settings.{Settings}
 use Rattle.geometry.specs.declared.PhysicalRow.{PhysicalRow}
@@ -18,19 +17,20 @@ use Rattle.engine.proofs.Parts.{part-is}
 use Rattle.figures.specs.Promises.{InspectPartPromise}
 use Rattle.figures.proofs.Spans.{span-none, span-row}
 
--- x: the number as the code has it; store, part: what is lent and what is returned
-module _ (S : Settings) (σ : State) (r x : ℕ) (same : x ≡ inspectNumber S σ r) (store part : RefT (List ℕ)) where
+-- x: the number as the code has it; store: the address of what is lent; bytes, address: of what is returned
+module _ (S : Settings) (σ : State) (r x : ℕ) (same : x ≡ inspectNumber S σ r) (store : ℕ × ℕ) (bytes : List ℕ) (address : ℕ × ℕ) where
   none : x ≢ 0 → [] ≡ inspectPart S σ r
   unfolding inspectPart
   none n = rw (ne-eqb (inspectNumber S σ r) 0 (λ z. n (same ∙ z)))
 
-  pub part-none : x ≢ 0 → now part ≡ [] → ptr part ≡ ptr store → InspectPartPromise S σ r store part
+  pub part-none : x ≢ 0 → bytes ≡ [] → address ≡ store → InspectPartPromise S σ r store bytes address
   part-none n e at =
-      (e ∙ none n, rw (← span-none S σ r x same n _ refl) (at ∙ ap (λ (o : ℕ). (ptr store .0, o)) (sym (zero-add (ptr store .1)))))
+      (e ∙ none n, rw (← span-none S σ r x same n _ refl) (at ∙ ap (λ (o : ℕ). (store .0, o)) (sym (zero-add (store .1)))))
 
-  pub part-row : x ≡ 0 → (p : PhysicalRow) → p ≡ physical (place S σ r) → now part ≡ rowBytes (S .w) (σ .store) (p .0)
-      → ptr part ≡ (ptr store .0, p .0 * S .w + ptr store .1) → InspectPartPromise S σ r store part
-  part-row z p placed e at = (
-    e ∙ ap (λ (q : PhysicalRow). rowBytes (S .w) (σ .store) (q .0)) placed ∙ sym (part-is S σ r x same z),
-    rw (← span-row S σ r x same z p placed _ refl) at,
-  )
+  pub part-row : x ≡ 0 → (p : PhysicalRow) → p ≡ physical (place S σ r) → bytes ≡ rowBytes (S .w) (σ .store) (p .0)
+      → address ≡ (store .0, p .0 * S .w + store .1) → InspectPartPromise S σ r store bytes address
+  part-row z p placed e at =
+      (
+        e ∙ ap (λ (q : PhysicalRow). rowBytes (S .w) (σ .store) (q .0)) placed ∙ sym (part-is S σ r x same z),
+        rw (← span-row S σ r x same z p placed _ refl) at,
+      )

@@ -1,6 +1,7 @@
 // The calls that only look at a row, with the control record by value: inspect. Each answers for any settings, row and lent
 // memory, and writes nothing.
 ghost use mathlib.Core.Path.{_≡_};
+ghost use denote.Ref.{ptr};
 ghost use Prim.Native.Nat.{_<_};
 ghost use lib.ListN.{getD};
 ghost use Rattle.geometry.specs.Numbering.{physical};
@@ -57,7 +58,7 @@ pub fn inspect_part<'a>(
 ) -> &'a [u8]
     ensures { λ r.
         let lent = entering store forward reverse rows counts control in
-        ⌜ InspectPartPromise s lent row (store .entry) r ⌝ }
+        ⌜ InspectPartPromise s lent row (ptr (store .entry)) (now r) (ptr r) ⌝ }
 {
     let number = inspect_number(control, s, row, store, forward, reverse, rows, counts);
     if number != 0 {

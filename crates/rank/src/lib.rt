@@ -4,6 +4,7 @@
 // supposes these and nothing else. Rattle code may hold the record by value and call the crates `epoch`, `look` and
 // `access` instead.
 ghost use mathlib.Core.Path.{_≡_};
+ghost use denote.Ref.{ptr};
 ghost use Rattle.sizing.specs.declared.SizeTimes.{SizeTimes as SizeTimes-of};
 ghost use Rattle.sizing.specs.declared.RefreshTimes.{RefreshTimes as RefreshTimes-of};
 ghost use Rattle.sizing.specs.Sums.{leastSize, mostActivations};
@@ -168,7 +169,7 @@ pub fn inspect_part<'a>(
 ) -> &'a [u8]
     ensures { λ r.
         let lent = entering store forward reverse rows counts (now (control .entry)) in
-        ⌜ InspectPartPromise s lent row (store .entry) r ⌝ }
+        ⌜ InspectPartPromise s lent row (ptr (store .entry)) (now r) (ptr r) ⌝ }
 {
     look::inspect_part(*control, s, row, store, forward, reverse, rows, counts)
 }

@@ -20,7 +20,8 @@ use Rattle.figures.proofs.Spans.{span-part, span-none}
 use Rattle.history.specs.Run as run
 use Rattle.basics.specs.Lists.{Each, OneOf}
 use Rattle.history.specs.Chain.{Idle, misfit as lent-misfit, looks, Chain, end, call, idle, Claim, OfChains, CallClaim, AnyCall}
-use Rattle.history.specs.Demand2.{InverseHolds, BytesHold, Usual, GoodAccess}
+use Rattle.history.specs.Demand2.{InverseHolds, BytesHold, Usual}
+use Rattle.history.specs.AfterTick.{GoodAccess}
 use Rattle.history.specs.Demand3.{Demand3Holds}
 use Rattle.history.specs.Window.{WindowHolds}
 use Rattle.history.specs.Estimates.{EstimatesHold}

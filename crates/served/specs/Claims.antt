@@ -13,7 +13,8 @@ use Rattle.figures.specs.Promises.{SetUpPromise, TickPromise, InspectSpanPromis
 use Rattle.figures.specs.Span.{spanned}
 use Rattle.basics.specs.Lists.{Each}
 use Rattle.history.specs.Chain.{Claim, CallClaim}
-use Rattle.history.specs.Demand2.{Memory, standing, remembered, IsRow, RowsReturned, Usual, GoodAccess}
+use Rattle.history.specs.Demand2.{Memory, standing, remembered, IsRow, RowsReturned, Usual}
+use Rattle.history.specs.AfterTick.{GoodAccess}
 use Rattle.history.specs.Demand3.{Demand3Holds}
 use Rattle.history.specs.Window.{WindowHolds}
 use Rattle.history.specs.Estimates.{EstimatesHold}

@@ -1,4 +1,5 @@
 -- `inspect_part`: nothing where the number is not 0, else the row's part. Assumes nothing.
+use mathlib.Core.Path.{refl}
 use Rattle.engine.specs.State.{State, stateOf}
 use Rattle.engine.proofs.Parts.{row-fits, part-inside}
 use Rattle.look.proofs.Serves.{part-none, part-row}
@@ -26,7 +27,7 @@ returns : tie.Need-returns
 returns c =
     let n = c .before .before in
     let b = begun n in
-    part-none (b .args .s) (lent b) (b .args .row) _ (n .inspect-number .ensures) (b .args .store) _ (c .before .if1 .taken) refl refl
+    part-none (b .args .s) (lent b) (b .args .row) _ (n .inspect-number .ensures) (b .args .store .ptr) _ _ (c .before .if1 .taken) refl refl
 
 place-of-requires : tie.Need-place-of-requires
 place-of-requires c κs =
@@ -46,7 +47,7 @@ returns-2 c =
     let p = c .before .before in
     let e = accepted p in
     let b = begun (e .before) in
-    part-row (b .args .s) (lent b) (b .args .row) _ (e .before .inspect-number .ensures) (b .args .store) _ (e .if1 .left)
+    part-row (b .args .s) (lent b) (b .args .row) _ (e .before .inspect-number .ensures) (b .args .store .ptr) _ _ (e .if1 .left)
     _ (p .place-of .ensures) (c .row-part .ensures .0) (c .row-part .ensures .1)
 
 pub inspect-part-spec : {M : Type 1} → statement M
