@@ -43,3 +43,9 @@ fails-below test (suc n) c h l =
       | inl e ↦ rw e (or-right (someBelow test n) (test n) h)
       | inr k ↦ fails-below test n c (or-left (someBelow test n) (test n) h) (omega arith)
     ]
+
+-- only the answers of the test below n matter
+pub same-below : (test test′ : ℕ → Bool) (n : ℕ) → ((c : ℕ) → c < n → test c ≡ test′ c) → someBelow test n ≡ someBelow test′ n
+unfolding someBelow
+same-below test test′ zero same = refl
+same-below test test′ (suc n) same = rw (same-below test test′ n (λ c h. same c (omega arith)), same n (le-refl (suc n)))

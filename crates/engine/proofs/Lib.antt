@@ -10,3 +10,4 @@ pub mod Counting
 pub mod Moves
 pub mod Worn
 pub mod Answers
+pub mod Unused

@@ -43,6 +43,11 @@ pub goes-on : {a : ℕ} (b : ℕ) → a ≡ 0 → a ▹ b ≡ b
 unfolding _▹_
 goes-on b e = rw e
 
+-- the rest matters only where the first number is 0
+pub rest-alike : (a : ℕ) {b c : ℕ} → (a ≡ 0 → b ≡ c) → a ▹ b ≡ a ▹ c
+unfolding _▹_
+rest-alike a same = elim (split (eqb a 0)) [ inl e ↦ rw e (same (eqb-true a 0 e)) | inr e ↦ rw e ]
+
 -- two ladders one after the other are one
 pub joined : (a b c : ℕ) → (a ▹ b) ▹ c ≡ a ▹ (b ▹ c)
 unfolding _▹_

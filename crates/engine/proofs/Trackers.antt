@@ -161,9 +161,9 @@ module _ (S : Settings) (σ : State) (sound : Sound S σ) (r x : ℕ) where
 abbrev pub newTracker : ℕ → Tracker
 newTracker k = record { rows = replicate k empty; counts = replicate k 0; spill = 0; acts = 0 }
 
-zero-there : (b : ℕ) (numbers : List ℕ) (c : ℕ) → c < b → getD (zeroBelow b numbers) c 0 ≡ 0
+zero-there : (b c : ℕ) → c < b → (numbers : List ℕ) → getD (zeroBelow b numbers) c 0 ≡ 0
 unfolding zeroBelow
-zero-there b numbers c inside =
+zero-there b c inside numbers =
     List·getD-append (replicate b 0) (drop b numbers) 0 c (omega (arith, length-replicate {A = ℕ} b 0)) ∙ getD-replicate b c 0 0 inside
 
 pub zero-long : (b : ℕ) (numbers : List ℕ) → b ≤ length (zeroBelow b numbers)
@@ -174,26 +174,25 @@ pub tracker-new : (S : Settings) (σ : State) (p : ℕ) → 1 ≤ S .b → track
 tracker-new S σ p some =
     let c : ℕ = bankOf S p in
     let inside : c < S .b = bank-in S p some in
-    rw (
-      portion-replicate (S .k) (S .b) c empty inside,
-      portion-replicate (S .k) (S .b) c 0 inside,
-      zero-there (S .b) (σ .control .spill) c inside,
-      zero-there (S .b) (σ .control .acts) c inside,
-    )
+    simp (portion-replicate (S .k) (S .b) c empty inside, portion-replicate (S .k) (S .b) c 0 inside, zero-there (S .b) c inside)
 
 -- what holds of a new tracker holds of each
 pub all-new : (S : Settings) (σ : State) → 1 ≤ S .b → (P : Tracker → Type 0) → P (newTracker (S .k)) → (p : ℕ) → P (trackerAt S (ticked S σ) p)
 all-new S σ some P h p = subst P (sym (tracker-new S σ p some)) h
 
+-- a list of one number in two parts
+fill-whole : (b n x : ℕ) → b ≤ n → replicate b x ++ replicate (n - b) x ≡ replicate n x
+fill-whole b n x few = replicate-append-replicate b (n - b) x ∙ ap (λ (m : ℕ). replicate m x) (add-sub-of-le few)
+
+pub fill-behind : (b n x : ℕ) → b ≤ n → drop b (replicate n x) ≡ replicate (n - b) x
+fill-behind b n x few =
+    ap (λ (l : List ℕ). drop b l) (sym (fill-whole b n x few))
+    ∙ drop-at (replicate b x) (replicate (n - b) x) b (length-replicate b x)
+
 -- set-up leaves what a tick would leave
 zero-again : (b n : ℕ) → b ≤ n → zeroBelow b (replicate n 0) ≡ replicate n 0
 unfolding zeroBelow
-zero-again b n few =
-    let zeros : ℕ → List ℕ = λ m. replicate m 0 in
-    let whole : zeros b ++ zeros (n - b) ≡ zeros n = replicate-append-replicate b (n - b) 0 ∙ ap zeros (add-sub-of-le few) in
-    ap (λ (l : List ℕ). zeros b ++ drop b l) (sym whole)
-    ∙ ap (λ (l : List ℕ). zeros b ++ l) (drop-at (zeros b) (zeros (n - b)) b (length-replicate b 0))
-    ∙ whole
+zero-again b n few = ap (λ (l : List ℕ). replicate b 0 ++ l) (fill-behind b n 0 few) ∙ fill-whole b n 0 few
 
 pub cleared-new : (S : Settings) (σ : State) → S .b ≤ mostBanks → ticked S (cleared S σ) ≡ cleared S σ
 cleared-new S σ few = rw (zero-again (S .b) mostBanks few)

@@ -6,3 +6,4 @@ pub mod OwnSlot
 pub mod Ladder
 pub mod Calls
 pub mod Inverse
+pub mod Unused

@@ -24,3 +24,4 @@ pub mod Slots
 pub mod March
 pub mod Short
 pub mod Tight
+pub mod Unused

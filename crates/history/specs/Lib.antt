@@ -9,3 +9,4 @@ pub mod Window
 pub mod Tight
 pub mod Estimates
 pub mod Spent
+pub mod Unused
