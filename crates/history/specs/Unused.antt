@@ -1,5 +1,6 @@
 -- Document 02, Ask 5, as one claim, of any settings, arguments and lent memory, sound or not: 'the record's places for banks
--- from B on are 0 at set-up and not looked at or changed afterwards.' Its proof is `unused` of proofs/Unused.antt.
+-- from B on are 0 at set-up and not looked at or changed afterwards.' Its proof is `unused` of proofs/Unused.antt; the same of
+-- the C functions is `UnusedServed` of crate `served`.
 -- Assumes nothing.
 use Prim.Native.Nat.{ℕ, _-_}
 use mathlib.Core.Path.{_≡_}

@@ -43,6 +43,30 @@ told S before after x (tells-write row column bytes outcome) p = access-told (ca
 told S before after x (tells-number row number) p = rw (p .0, p .1)
 told S before after x (tells-tick number) p = ap run.ofNoted p
 
+-- and the other way round: an answer that is the step of the call is as promised
+outcomeIn : run.Answer → Outcome
+outcomeIn a = record { number = a .number; slot = a .slot; row = a .row; estimate = a .estimate; place = a .place }
+
+access-heard : (a : calls.Accessed) (after : State) (o : Outcome) (filled : List ℕ)
+    → stepOf after (answerOf o filled) ≡ run.ofAccess a → AccessPromise a after o filled
+unfolding outcomeIn
+access-heard a after o filled e =
+    (
+      ap (λ (s : run.Step). s .state) e,
+      ap (λ (s : run.Step). outcomeIn (s .answer)) e,
+      ap (λ (s : run.Step). s .answer .buffer) e,
+    )
+
+pub heard : (S : Settings) (before after : State) (x : Exchange) → Tells x
+    → stepOf after ((seen x) .answer) ≡ run.step S before ((seen x) .call) → Promised S before x after
+unfolding run.step
+heard S before after x (tells-read row buffer outcome filled) e = access-heard (calls.read S before row buffer) after outcome filled e
+heard S before after x (tells-write row column bytes outcome) e = access-heard (calls.write S before row column bytes) after outcome [] e
+heard S before after x (tells-number row number) e =
+    (ap (λ (s : run.Step). s .answer .number) e, ap (λ (s : run.Step). s .state) e)
+heard S before after x (tells-tick number) e =
+    ap (λ (s : run.Step). calls.notedOf (s .state) (s .answer .number)) e
+
 -- a look that tells no number
 abbrev pub silent : run.Look → run.Event
 silent x = record { call = run.rank (run.look x); answer = run.figureless 0 [] }
