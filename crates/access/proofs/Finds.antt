@@ -8,8 +8,8 @@ use lib.Dec.{eqb}
 use lib.ListN.{length}
 use borrow.Author.Tests.{eqb-true, eqb-false}
 use Rattle.geometry.specs.declared.Settings.{Settings}
-use Rattle.geometry.specs.declared.ForwardEntry.{ForwardEntry}
-use Rattle.geometry.specs.declared.PhysicalRow.{PhysicalRow}
+use Rattle.geometry.specs.declared.entry.ForwardEntry.{ForwardEntry}
+use Rattle.geometry.specs.declared.numbering.PhysicalRow.{PhysicalRow}
 use Rattle.geometry.specs.Numbering.{visible, slot, physical}
 use Rattle.geometry.specs.Entry.{forwardEntryOf}
 use Rattle.geometry.specs.Place.{placeBy}

@@ -6,7 +6,7 @@ use mathlib.Core.Bool.{false}
 use lib.ListN.{length}
 use borrow.Author.Tests.{eq-eqb}
 use Rattle.geometry.specs.declared.Settings.{Settings}
-use Rattle.geometry.specs.declared.PhysicalRow.{PhysicalRow}
+use Rattle.geometry.specs.declared.numbering.PhysicalRow.{PhysicalRow}
 use Rattle.geometry.specs.Numbering.{physical}
 use Rattle.conditions.proofs.Facts.{Ranges, Exact, ranges-facts, lengths-facts}
 use Rattle.basics.proofs.Portions.{portion-before}

@@ -5,7 +5,7 @@ use mathlib.Core.Logic.{inl, inr, _≢_}
 use lib.Dec.{eqb}
 use borrow.Author.Tests.{eq-eqb, ne-eqb}
 use Rattle.geometry.specs.declared.Settings.{Settings}
-use Rattle.geometry.specs.declared.PhysicalRow.{PhysicalRow}
+use Rattle.geometry.specs.declared.numbering.PhysicalRow.{PhysicalRow}
 use Rattle.geometry.specs.Numbering.{physical}
 use Rattle.basics.proofs.Cases.{split}
 use Rattle.row_layout.specs.Bytes.{rowBytes}

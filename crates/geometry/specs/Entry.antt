@@ -3,10 +3,10 @@
 use Prim.Native.Nat.{ℕ}
 use mathlib.Core.Bool.{Bool}
 use lib.Dec.{eqb}
-use Rattle.geometry.specs.declared.VisibleRow.{VisibleRow}
-use Rattle.geometry.specs.declared.Slot.{Slot}
-use Rattle.geometry.specs.declared.ForwardEntry.{ForwardEntry}
-use Rattle.geometry.specs.declared.ReverseEntry.{ReverseEntry}
+use Rattle.geometry.specs.declared.numbering.VisibleRow.{VisibleRow}
+use Rattle.geometry.specs.declared.numbering.Slot.{Slot}
+use Rattle.geometry.specs.declared.entry.ForwardEntry.{ForwardEntry}
+use Rattle.geometry.specs.declared.entry.ReverseEntry.{ReverseEntry}
 
 -- 'The mark 65535 means empty and belongs to the entry itself.'
 abbrev pub empty : ℕ

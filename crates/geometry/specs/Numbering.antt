@@ -2,9 +2,9 @@
 -- Assumes nothing.
 use Prim.Native.Nat.{ℕ, _+_}
 use Rattle.geometry.specs.declared.Settings.{Settings}
-use Rattle.geometry.specs.declared.VisibleRow.{VisibleRow}
-use Rattle.geometry.specs.declared.Slot.{Slot}
-use Rattle.geometry.specs.declared.PhysicalRow.{PhysicalRow}
+use Rattle.geometry.specs.declared.numbering.VisibleRow.{VisibleRow}
+use Rattle.geometry.specs.declared.numbering.Slot.{Slot}
+use Rattle.geometry.specs.declared.numbering.PhysicalRow.{PhysicalRow}
 
 -- a number as one of each numbering
 abbrev pub visible : ℕ → VisibleRow

@@ -6,7 +6,7 @@ use mathlib.Core.Logic.{_≢_}
 use mathlib.Core.List.{List, []}
 use borrow.Author.Tests.{ne-eqb}
 use Rattle.geometry.specs.declared.Settings.{Settings}
-use Rattle.geometry.specs.declared.PhysicalRow.{PhysicalRow}
+use Rattle.geometry.specs.declared.numbering.PhysicalRow.{PhysicalRow}
 use Rattle.geometry.specs.Numbering.{physical}
 use Rattle.row_layout.specs.Bytes.{rowBytes}
 use Rattle.engine.specs.State.{State}

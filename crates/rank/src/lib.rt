@@ -2,23 +2,18 @@
 // include/aqua.h). They answer for any settings, arguments and lent memory; a refusal leaves everything as it was.
 // What each promises is one definition of crate `figures` (specs/Promises.antt); the theorem about them (crate `served`)
 // supposes these and nothing else. Rattle code may hold the record by value and call the crates `epoch`, `look` and
-// `access` instead.
+// `access` instead. The two sizing sums, which need no record, stand in `sums`.
 ghost use mathlib.Core.Path.{_≡_};
 ghost use denote.Ref.{ptr};
-ghost use Rattle.sizing.specs.declared.SizeTimes.{SizeTimes as SizeTimes-of};
-ghost use Rattle.sizing.specs.declared.RefreshTimes.{RefreshTimes as RefreshTimes-of};
-ghost use Rattle.sizing.specs.Sums.{leastSize, mostActivations};
 ghost use Rattle.engine.specs.State.{entering, leaving};
 ghost use Rattle.figures.specs.Promises.{SetUpPromise, ReadPromise, WritePromise, TickPromise};
 ghost use Rattle.figures.specs.Promises.{InspectNumberPromise, InspectSpanPromise, InspectPartPromise};
-ghost use Rattle.figures.specs.Sum.{sumOf};
 use figures::Outcome;
 use figures::Span;
-use figures::Sum;
 use geometry::Control;
 use geometry::Settings;
-use sizing::RefreshTimes;
-use sizing::SizeTimes;
+
+mod sums;
 
 // Begins a new history, and returns the number.
 #[no_mangle]
@@ -191,42 +186,4 @@ pub extern "C" fn aqua_inspect_span(
         ⌜ InspectSpanPromise s lent row r ⌝ }
 {
     look::inspect_span(*control, s, row, store, forward, reverse, rows, counts)
-}
-
-// Returns the least quarantine size, in slots; times are in nanoseconds.
-#[no_mangle]
-pub extern "C" fn aqua_least_size(
-    trefw: u64,
-    trc: u64,
-    tmov: u64,
-    banks: u64,
-    threshold: u64,
-) -> Sum
-    ensures { λ r.
-        let times : SizeTimes-of =
-        record { trefw = trefw; trc = trc; tmov = tmov; banks = banks; threshold = threshold } in
-        ⌜ r ≡ sumOf (leastSize times) ⌝ }
-{
-    figures::sum_of(sizing::least_size(SizeTimes {
-        trefw: trefw,
-        trc: trc,
-        tmov: tmov,
-        banks: banks,
-        threshold: threshold,
-    }))
-}
-
-// Returns the most activations of a bank in a refresh window; times are in nanoseconds.
-#[no_mangle]
-pub extern "C" fn aqua_most_activations(trefw: u64, trc: u64, trefi: u64, trfc: u64) -> Sum
-    ensures { λ r.
-        let times : RefreshTimes-of = record { trefw = trefw; trc = trc; trefi = trefi; trfc = trfc } in
-        ⌜ r ≡ sumOf (mostActivations times) ⌝ }
-{
-    figures::sum_of(sizing::most_activations(RefreshTimes {
-        trefw: trefw,
-        trc: trc,
-        trefi: trefi,
-        trfc: trfc,
-    }))
 }

@@ -8,9 +8,9 @@ use mathlib.Core.List.{List}
 use lib.ListN.{length, set}
 use borrow.Author.Tests.{eqb-false}
 use Rattle.geometry.specs.declared.Settings.{Settings}
-use Rattle.geometry.specs.declared.PhysicalRow.{PhysicalRow}
-use Rattle.geometry.specs.declared.ForwardEntry.{ForwardEntry}
-use Rattle.geometry.specs.declared.ReverseEntry.{ReverseEntry}
+use Rattle.geometry.specs.declared.numbering.PhysicalRow.{PhysicalRow}
+use Rattle.geometry.specs.declared.entry.ForwardEntry.{ForwardEntry}
+use Rattle.geometry.specs.declared.entry.ReverseEntry.{ReverseEntry}
 use Rattle.geometry.specs.Numbering.{physical, homeRow, slotRow}
 use Rattle.geometry.specs.Entry.{empty, isEmpty, forwardEntryOf, reverseEntryOf}
 use Rattle.basics.proofs.Cases.{split}

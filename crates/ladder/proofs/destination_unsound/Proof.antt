@@ -1,6 +1,6 @@
 -- `destination_unsound` judges the slot's reverse entry by the forward table. Assumes nothing.
 use mathlib.Core.Path.{ap}
-use Rattle.geometry.specs.declared.VisibleRow.{VisibleRow}
+use Rattle.geometry.specs.declared.numbering.VisibleRow.{VisibleRow}
 use Rattle.engine.specs.Ladder.{destinationUnsound}
 use Rattle.ladder.proofs.Stages.{names-none, names-past, names-back}
 use borrow.Author.Needs.{needs}

@@ -1,6 +1,6 @@
 -- `row_unsound` judges the row's forward entry by the reverse table. Assumes nothing.
 use mathlib.Core.Path.{refl, ap}
-use Rattle.geometry.specs.declared.Slot.{Slot}
+use Rattle.geometry.specs.declared.numbering.Slot.{Slot}
 use Rattle.ladder.proofs.Stages.{names-none, names-past, names-back}
 use borrow.Author.Needs.{needs}
 use Rattle.ladder.proofs.row_unsound.Statement.{statement}

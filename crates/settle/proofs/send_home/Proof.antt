@@ -4,7 +4,7 @@ use mathlib.Core.Path.{_≡_, refl, sym, ap, _∙_}
 use mathlib.Core.Bool.{false}
 use native.Mathlib.Omega.{arith}
 use lib.ListN.{set}
-use Rattle.geometry.specs.declared.VisibleRow.{VisibleRow}
+use Rattle.geometry.specs.declared.numbering.VisibleRow.{VisibleRow}
 use Rattle.geometry.specs.Numbering.{physical}
 use Rattle.geometry.specs.Entry.{empty, isEmpty}
 use Rattle.settle.proofs.Settles.{entry-in, copy-ready, copy-left}

@@ -2,7 +2,7 @@
 use Prim.Native.Nat.{_<_}
 use mathlib.Core.Path.{_≡_, ap, _∙_}
 use native.Mathlib.Omega.{arith}
-use Rattle.geometry.specs.declared.Slot.{Slot}
+use Rattle.geometry.specs.declared.numbering.Slot.{Slot}
 use Rattle.engine.specs.State.{Tables, tablesOf}
 use Rattle.engine.specs.Round.{destinationFrom}
 use Rattle.engine.proofs.Moves.{destination-from-in}
