@@ -14,7 +14,6 @@ pub use numbering::home;
 pub use numbering::slot_row;
 
 mod entry;
-
 mod numbering;
 
 // The settings, by the letters of document 01.

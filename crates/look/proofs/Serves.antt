@@ -29,8 +29,7 @@ module _ (S : Settings) (σ : State) (r x : ℕ) (same : x ≡ inspectNumber S �
 
   pub part-row : x ≡ 0 → (p : PhysicalRow) → p ≡ physical (place S σ r) → bytes ≡ rowBytes (S .w) (σ .store) (p .0)
       → address ≡ (store .0, p .0 * S .w + store .1) → InspectPartPromise S σ r store bytes address
-  part-row z p placed e at =
-      (
-        e ∙ ap (λ (q : PhysicalRow). rowBytes (S .w) (σ .store) (q .0)) placed ∙ sym (part-is S σ r x same z),
-        rw (← span-row S σ r x same z p placed _ refl) at,
-      )
+  part-row z p placed e at = (
+    e ∙ ap (λ (q : PhysicalRow). rowBytes (S .w) (σ .store) (q .0)) placed ∙ sym (part-is S σ r x same z),
+    rw (← span-row S σ r x same z p placed _ refl) at,
+  )

@@ -15,7 +15,6 @@ use geometry::Settings;
 use geometry::Slot;
 
 mod marking;
-
 mod search;
 
 // Returns the index after one, round q.

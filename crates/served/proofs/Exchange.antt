@@ -50,12 +50,11 @@ outcomeIn a = record { number = a .number; slot = a .slot; row = a .row; estimat
 access-heard : (a : calls.Accessed) (after : State) (o : Outcome) (filled : List ℕ)
     → stepOf after (answerOf o filled) ≡ run.ofAccess a → AccessPromise a after o filled
 unfolding outcomeIn
-access-heard a after o filled e =
-    (
-      ap (λ (s : run.Step). s .state) e,
-      ap (λ (s : run.Step). outcomeIn (s .answer)) e,
-      ap (λ (s : run.Step). s .answer .buffer) e,
-    )
+access-heard a after o filled e = (
+  ap (λ (s : run.Step). s .state) e,
+  ap (λ (s : run.Step). outcomeIn (s .answer)) e,
+  ap (λ (s : run.Step). s .answer .buffer) e,
+)
 
 pub heard : (S : Settings) (before after : State) (x : Exchange) → Tells x
     → stepOf after ((seen x) .answer) ≡ run.step S before ((seen x) .call) → Promised S before x after
