@@ -9,11 +9,13 @@ use Rattle.line_text.specs.LineText.{lineBytes}
 use Rattle.trace_steps.specs.Steps.{linesFrom}
 use Rattle.engine.specs.Ladder.{settingsNumber}
 use Rattle.replay.specs.Replay.{played, replayed}
-use Rattle.computed.specs.Cases.{holds, AllHold}
+use Rattle.history.specs.Tally.{hit}
+use Rattle.computed.specs.Case.{holds}
+use Rattle.computed.specs.Cases.{AllHold}
 use Rattle.computed.proofs.Traced.{traced}
 
 pub all-hold : AllHold
 unfolding holds leastSize mostActivations sizeRangesHold activationRangesHold
     replayed isEmptyTrace traceIn readableFrom every numbersFrom hasSections banksIn played settingsNumber
-    linesFrom lineBytes decimalWithin traced
+    linesFrom lineBytes decimalWithin hit traced
 all-hold = refl
