@@ -4,6 +4,7 @@ use Prim.Native.Nat.{ℕ}
 use mathlib.Core.List.{List, [], _∷_, _++_}
 use lib.ListN.{replicate}
 use Rattle.geometry.specs.declared.Settings.{Settings}
+use Rattle.computed.specs.Marked.{sessionLines}
 use Rattle.computed.specs.Case.{Lent, Case, trace, reads, settings, settingsOf, withBanks, byBank, lentOf}
 
 -- A trace with two banks, derived by hand from documents 01 and 02. 'Physical row p belongs to bank p mod B': rows 0 and 2 and

@@ -2,7 +2,7 @@
 use Prim.Native.Nat.{ℕ, _+_, _-_, _*_, _<_, _≤_}
 use native.Mathlib.Nat.{mul-le-mul, add-le-add}
 use native.Mathlib.Omega.{arith}
-use mathlib.Core.Path.{_≡_, refl}
+use mathlib.Core.Path.{_≡_, refl, sym, _∙_}
 use mathlib.Core.Logic.{_≢_}
 use mathlib.Core.Bool.{true, false}
 use mathlib.Core.List.{List, []}
@@ -16,8 +16,8 @@ use Rattle.engine.specs.Ladder.{settingsNumber}
 use Rattle.engine.proofs.Facts.{settings-facts}
 use Rattle.trace_file.specs.declared.Form.{Form}
 use Rattle.trace_file.specs.declared.Form.the-variants.{Refused, Trace}
-use Rattle.trace_file.specs.Form.{Recorded, mostNumbers, traceWithin, isEmptyTrace, recorded}
-use Rattle.trace_file.proofs.Sections.{enough-room}
+use Rattle.trace_file.specs.Form.{Recorded, recorded, traceIn, isEmptyTrace, mostNumbers, traceWithin}
+use Rattle.trace_file.proofs.Sections.{all-said}
 use Rattle.lines.specs.declared.Line.{Line}
 use Rattle.lines.specs.Lines.{bare}
 use Rattle.line_text.specs.LineText.{lineBytes}
@@ -67,6 +67,18 @@ module _ {form : Form} (numbers : List ℕ) where
       let same : first + count - first ≡ count = omega arith in
       rw (e, same) refl
 
+-- ---- what is printed for a file
+
+module _ (text : List ℕ) where
+  pub empty-replayed : isEmptyTrace text ≡ true → replayed text ≡ []
+  unfolding replayed
+  empty-replayed e = rw e refl
+
+  pub form-replayed : {said : Option Recorded} → isEmptyTrace text ≡ false → traceIn text ≡ said
+      → replayed text ≡ playedForm said
+  unfolding replayed
+  form-replayed e f = rw (e, f) refl
+
 -- ---- the page
 
 module _ (text : List ℕ) {room : ℕ} where
@@ -80,11 +92,9 @@ module _ (text : List ℕ) {room : ℕ} where
     page-wide = rw (le-leb pageRoom room wide) refl
 
     pub page-blank : isEmptyTrace text ≡ true → [] ≡ printedOn room text
-    unfolding replayed
-    page-blank e = rw (page-wide, e) refl
+    page-blank e = sym (page-wide ∙ empty-replayed text e)
 
     -- the page has room for all lines, and the list of numbers for every trace
     pub page-long : {places : ℕ} {said : Option Recorded} → isEmptyTrace text ≡ false → mostNumbers ≤ places
         → said ≡ traceWithin places text → playedForm said ≡ printedOn room text
-    unfolding replayed
-    page-long {places} e long f = rw (page-wide, e, f, enough-room text places long) refl
+    page-long {places} e long f = sym (page-wide ∙ form-replayed text e (sym (f ∙ all-said text places long)))

@@ -1,3 +1,5 @@
+pub mod Lent
 pub mod Memory
 pub mod Judging
 pub mod EmptyTrace
+pub mod History

@@ -1,3 +1,4 @@
 pub mod Memory
 pub mod Replay
 pub mod EmptyTrace
+pub mod History

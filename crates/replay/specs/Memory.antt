@@ -1,11 +1,14 @@
 -- Document 01, 'Trace program', with document 02, Ask 5, on banks: the memory that a trace is run on.
 -- Assumes nothing.
 use Prim.Native.Nat.{ℕ, _+_, _*_}
+use mathlib.Core.Path.{_≡_}
 use mathlib.Core.Bool.{Bool, _&&_}
 use lib.Dec.{leb}
 use lib.ListN.{replicate}
 use Rattle.geometry.specs.declared.Settings.{Settings}
 use Rattle.engine.specs.State.{State, stateOf, newControl}
+use Rattle.engine.specs.Ladder.{settingsNumber}
+use Rattle.engine.specs.Calls.{setUp}
 
 -- '(N + Q) × W bytes'
 abbrev pub storeBytes : Settings → ℕ
@@ -20,6 +23,10 @@ abbrev pub lent : Settings → State
 lent S =
     stateOf (replicate (storeBytes S) 0) (replicate (S .n) 0) (replicate (S .q) 0)
     (replicate (trackerEntries S) 0) (replicate (trackerEntries S) 0) newControl
+
+-- set-up accepts it, with all settings that pass 1 and 2
+abbrev pub SetUpAccepts : Type 0
+SetUpAccepts = (S : Settings) → settingsNumber S ≡ 0 → (setUp S (lent S)) .number ≡ 0
 
 -- 'store at most 32,768 bytes'
 abbrev pub mostStore : ℕ

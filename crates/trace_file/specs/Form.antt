@@ -57,9 +57,19 @@ settingsOf xs =
       b = banksIn xs;
     }
 
--- what the numbers say; none where they are not in two sections
+-- what the numbers are: refused where they are not in two sections, else the settings, where the steps begin, and how many
+-- there are
+abbrev pub formOf : List ℕ → Form
+formOf xs = cond (hasSections xs) (Trace (settingsOf xs) (stepsAt xs) (secondCount xs)) Refused
+
+-- what a form says, with the list in which the steps stand
+abbrev pub recorded : Form → List ℕ → Option Recorded
+recorded Refused list = none
+recorded (Trace settings first count) list = some (record { settings = settings; steps = take count (drop first list) })
+
+-- what the numbers say
 abbrev pub sections : List ℕ → Option Recorded
-sections xs = cond (hasSections xs) (some (record { settings = settingsOf xs; steps = drop (stepsAt xs) xs })) none
+sections xs = recorded (formOf xs) xs
 
 -- ---- files
 
@@ -67,30 +77,35 @@ sections xs = cond (hasSections xs) (some (record { settings = settingsOf xs; st
 abbrev pub fileFits : List ℕ → Bool
 fileFits text = leb (length text) 65536
 
+-- the form of a file
+unfoldable pub formIn : List ℕ → Form
+formIn text = cond (fileFits text && readable text) (formOf (numbers text)) Refused
+
 -- what a file says; none where its form is refused
 unfoldable pub traceIn : List ℕ → Option Recorded
-traceIn text = cond (fileFits text && readable text) (sections (numbers text)) none
+traceIn text = recorded (formIn text) (numbers text)
 
 -- 'A file of no bytes, or of blanks and newlines alone within 01's file length' (document 02, Ask 1)
 unfoldable pub isEmptyTrace : List ℕ → Bool
 isEmptyTrace text = fileFits text && blank text
 
+-- ---- read into a list of `room` places
+
 -- the numbers of the longest trace: two counts, seven settings and 4,096 steps
 abbrev pub mostNumbers : ℕ
 mostNumbers = 4105
 
--- read into a list of `room` places: with fewer than the longest trace needs the file is refused
-unfoldable pub traceWithin : ℕ → List ℕ → Option Recorded
-traceWithin room text = cond (leb mostNumbers room) (traceIn text) none
+-- with fewer places than that the file is refused
+unfoldable pub formWithin : ℕ → List ℕ → Form
+formWithin room text = cond (leb mostNumbers room) (formIn text) Refused
 
--- ---- what an answer says
+-- what is then said
+abbrev pub traceWithin : ℕ → List ℕ → Option Recorded
+traceWithin room text = recorded (formWithin room text) (numbers text)
 
--- with the list of numbers that was lent
-abbrev pub recorded : Form → List ℕ → Option Recorded
-recorded Refused list = none
-recorded (Trace settings first count) list = some (record { settings = settings; steps = take count (drop first list) })
+-- ---- where the steps stand
 
--- where in that list the steps begin, and how many there are
+-- where they begin, and how many there are
 abbrev pub firstStep : Form → ℕ
 firstStep Refused = 0
 firstStep (Trace settings first count) = first
@@ -99,6 +114,6 @@ abbrev pub stepCount : Form → ℕ
 stepCount Refused = 0
 stepCount (Trace settings first count) = count
 
--- the steps stand within the numbers of the longest trace
+-- within the numbers of the longest trace
 abbrev pub StepsWithin : Form → Type 0
 StepsWithin form = (firstStep form ≤ 9) × (stepCount form ≤ 4096)

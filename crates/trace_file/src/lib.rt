@@ -3,8 +3,8 @@
 ghost use mathlib.Core.Path.{_≡_};
 ghost use Prim.Native.Nat.{_≤_};
 ghost use lib.ListN.{length, take};
-ghost use Rattle.trace_file.specs.Form.{banksIn, settingsOf, sections, traceWithin, isEmptyTrace};
-ghost use Rattle.trace_file.specs.Form.{recorded, StepsWithin};
+ghost use Rattle.trace_file.specs.Form.{banksIn, settingsOf, formOf, isEmptyTrace};
+ghost use Rattle.trace_file.specs.Form.{recorded, formWithin, traceWithin};
 use geometry::Settings;
 use number_text::Numbers;
 
@@ -54,8 +54,7 @@ fn settings_of(numbers: &[u32]) -> Settings
 // The sections of a trace whose numbers are the first `count` of the list.
 fn sections_of(numbers: &[u32], count: usize) -> Form
     requires { ⌜ count ≤ length (now numbers) ⌝ }
-    ensures said { λ r. ⌜ recorded r (now (numbers .entry)) ≡ sections (take count (now (numbers .entry))) ⌝ }
-    ensures within { λ r. ⌜ StepsWithin r ⌝ }
+    ensures { λ r. ⌜ r ≡ formOf (take count (now (numbers .entry))) ⌝ }
 {
     if count == 0 {
         return Form::Refused;
@@ -83,9 +82,9 @@ fn sections_of(numbers: &[u32], count: usize) -> Form
 // The trace that a file's bytes are. The lent list takes the numbers: two counts, at most seven settings and at most 4,096
 // steps.
 pub fn parse(text: &[u8], numbers: &mut [u32]) -> Form
+    ensures form { λ r. ⌜ r ≡ formWithin (length (now (numbers .entry))) (now (text .entry)) ⌝ }
     ensures said { λ r.
         ⌜ recorded r (now (numbers .exit)) ≡ traceWithin (length (now (numbers .entry))) (now (text .entry)) ⌝ }
-    ensures within { λ r. ⌜ StepsWithin r ⌝ }
 {
     if numbers.len() < MOST_NUMBERS {
         return Form::Refused;

@@ -1,6 +1,8 @@
 -- `replay::replay` meets its contract: an empty trace, then the file's form and what it says. Assumes nothing.
 use native.Mathlib.Omega.{arith}
 use mathlib.Core.Path.{sym, _∙_}
+use lib.ListN.{length}
+use Rattle.trace_file.proofs.Sections.{form-within}
 use Rattle.replay.proofs.Judging.{page-short, page-blank, page-long}
 use borrow.Author.Needs.{needs}
 use Rattle.replay.proofs.replay.Statement.{statement}
@@ -31,7 +33,14 @@ slice-aggregate-play-form : tie.Need-slice-aggregate-play-form
 slice-aggregate-play-form c = search needs
 
 play-form-requires : tie.Need-play-form-requires
-play-form-requires c κs = search needs
+play-form-requires c κs =
+    let t = c .before .before .before in
+    let e = t .before .before .before .before in
+    let numbers = t .before .before .number-buffer in (
+      rw (t .parse .ensures .0) (form-within (length (numbers .result)) (e .before .before .before .before .args .text .now)),
+      omega (arith, numbers .ensures, t .parse .kept .1 .0),
+      omega (arith, e .before .if1 .left),
+    )
 
 same-length : tie.Need-same-length
 same-length c = c .before .before .play-form .kept .1 .1 .0
@@ -46,7 +55,7 @@ returns-3 c =
     let wide = t .before .before .number-buffer .ensures in
     let filled = sym (e .is-empty-trace .ensures) ∙ p .if2 .left in (
       omega (arith, printed .ensures .0, printed .kept .1 .1 .0),
-      printed .ensures .1 ∙ page-long (a .text .now) (e .before .if1 .left) filled (omega (arith, wide)) (t .parse .ensures .0),
+      printed .ensures .1 ∙ page-long (a .text .now) (e .before .if1 .left) filled (omega (arith, wide)) (t .parse .ensures .1),
     )
 
 pub replay-spec : {M : Type 1} → statement M

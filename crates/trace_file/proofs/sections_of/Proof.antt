@@ -1,4 +1,4 @@
--- `trace_file::sections_of` meets its contract: one law of `sections` for each return. Assumes nothing.
+-- `trace_file::sections_of` meets its contract: one law of `formOf` for each return. Assumes nothing.
 use Prim.Native.Nat.{_+_, _<_, _≤_}
 use native.Mathlib.Omega.{arith}
 use mathlib.Core.Path.{_≡_, sym}
@@ -6,8 +6,8 @@ use mathlib.Core.Bool.{true}
 use borrow.Author.Needs.{needs}
 use borrow.Author.Tests.{not-true, not-false}
 use Rattle.trace_file.specs.Form.{firstCount, secondCount, stepsAt, isFirstCount}
-use Rattle.trace_file.proofs.Sections.{first-least, first-most, counted, counted-within}
-use Rattle.trace_file.proofs.Sections.{no-steps, no-numbers, first-refused, too-few, not-formed, well-formed}
+use Rattle.trace_file.proofs.Sections.{first-least, first-most, counted}
+use Rattle.trace_file.proofs.Sections.{no-numbers, first-refused, too-few, not-formed, well-formed}
 use Rattle.trace_file.proofs.sections_of.Statement.{statement}
 use Rattle.trace_file.proofs.sections_of.Tie as tie
 
@@ -34,7 +34,7 @@ second-fits q = omega (arith, q .shared-slice-known3 .given (firstCount (begun (
 returns : tie.Need-returns
 returns c =
     let b = c .before .before in
-    (sym (no-numbers (b .args .numbers .now) (b .args .count) (b .pre) (c .if1 .taken)), no-steps)
+    sym (no-numbers (b .args .numbers .now) (b .args .count) (b .pre) (c .if1 .taken))
 
 shared-slice-read-settings : tie.Need-shared-slice-read-settings
 shared-slice-read-settings c = search needs
@@ -47,7 +47,7 @@ returns-2 c =
     let b = c .before .before .before .before in
     let a = b .args in
     let e = not-true (isFirstCount (firstCount (a .numbers .now))) (c .if2 .taken) in
-    (sym (first-refused (a .numbers .now) (a .count) (b .pre) (c .before .before .if1 .left) e), no-steps)
+    sym (first-refused (a .numbers .now) (a .count) (b .pre) (c .before .before .if1 .left) e)
 
 add-first : tie.Need-add-first
 add-first c = omega (arith, first-few c)
@@ -57,7 +57,7 @@ returns-3 c =
     let p = c .before in
     let b = begun p in
     let a = b .args in
-    (sym (too-few (a .numbers .now) (a .count) (b .pre) (p .before .before .if1 .left) (c .if3 .taken)), no-steps)
+    sym (too-few (a .numbers .now) (a .count) (b .pre) (p .before .before .if1 .left) (c .if3 .taken))
 
 add-steps : tie.Need-add-steps
 add-steps c = search needs
@@ -81,8 +81,7 @@ returns-4 c =
     let b = begun p in
     let a = b .args in
     let e = not-true (counted (a .numbers .now) (a .count)) (c .if4 .taken) in
-    let none = not-formed (a .numbers .now) (a .count) (b .pre) (p .before .before .if1 .left) (first p) (q .if3 .left) e in
-    (sym none, no-steps)
+    sym (not-formed (a .numbers .now) (a .count) (b .pre) (p .before .before .if1 .left) (first p) (q .if3 .left) e)
 
 settings-of-requires : tie.Need-settings-of-requires
 settings-of-requires c κs =
@@ -97,8 +96,8 @@ returns-5 c =
     let b = begun p in
     let a = b .args in
     let e = not-false (counted (a .numbers .now) (a .count)) (c .before .if4 .left) in
-    let said = well-formed (a .numbers .now) (a .count) (b .pre) (p .before .before .if1 .left) (first p) (q .if3 .left) e in
-    (rw (c .settings-of .ensures) (sym said), (first-few p, counted-within (a .numbers .now) (a .count) e))
+    rw (c .settings-of .ensures)
+    (sym (well-formed (a .numbers .now) (a .count) (b .pre) (p .before .before .if1 .left) (first p) (q .if3 .left) e))
 
 pub sections-of-spec : {M : Type 1} → statement M
 sections-of-spec =
