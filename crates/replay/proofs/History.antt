@@ -13,7 +13,7 @@ use Rattle.history.proofs.Window.{window}
 use Rattle.trace_file.specs.Form.{Recorded, traceIn, isEmptyTrace}
 use Rattle.trace_steps.specs.Steps.{callOf, stepsFrom}
 use Rattle.replay.specs.Memory.{lent, memoryFits}
-use Rattle.replay.specs.History.{Says, Plays, IsHistory, TracesAreHistories, EveryFile}
+use Rattle.replay.specs.History.{Says, Plays, TracesAreHistories, EveryFile}
 use Rattle.replay.specs.History.{Prints, nothing, formless, unsettled, too-large, plays}
 use Rattle.replay.proofs.Lent.{set-up-accepts}
 use Rattle.replay.proofs.Judging.{settings-refused, memory-refused, all-run, empty-replayed, form-replayed}
@@ -52,4 +52,7 @@ module _ (text : List ℕ) where
 
 pub every-file : EveryFile
 every-file text =
-    elim (split (isEmptyTrace text)) [ inl e ↦ nothing e (empty-replayed text e) | inr e ↦ by-form text (traceIn text) refl e ]
+    elim (split (isEmptyTrace text)) [
+      | inl e ↦ nothing e (empty-replayed text e)
+      | inr e ↦ by-form text (traceIn text) refl e
+    ]

@@ -1,5 +1,5 @@
--- What a trace prints is what a history answered, so that the theorems of crate `history` speak of it; and what is printed for
--- each kind of file. The proofs are `traces-are-histories` and `every-file` of proofs/History.antt.
+-- What a trace prints is what a history answered, so that the theorems of crate `history` speak of it; and what is printed
+-- for each kind of file. The proofs are `traces-are-histories` and `every-file` of proofs/History.antt.
 -- Assumes nothing.
 use Prim.Native.Nat.{ℕ}
 use mathlib.Core.Path.{_≡_}
@@ -47,11 +47,12 @@ pub record IsHistory (S : Settings) (steps printed : List ℕ) : Type 0 where
   pub window : EachWindow S (answered S steps)
 
 abbrev pub TracesAreHistories : Type 0
-TracesAreHistories = (text : List ℕ) (S : Settings) (steps : List ℕ) → Plays text S steps → IsHistory S steps (replayed text)
+TracesAreHistories =
+    (text : List ℕ) (S : Settings) (steps : List ℕ) → Plays text S steps → IsHistory S steps (replayed text)
 
 -- ---- every file
 
--- 'the file's form is judged first, then the settings, then the store's size', after the empty trace (document 02, Ask 1)
+-- an empty trace (document 02, Ask 1), or what is judged: 'the file's form .. first, then the settings, then the store's size'
 pub data Prints (text : List ℕ) : Type 0 where
   nothing : isEmptyTrace text ≡ true → replayed text ≡ [] → Prints text
   formless : isEmptyTrace text ≡ false → traceIn text ≡ none → replayed text ≡ refusedLine → Prints text

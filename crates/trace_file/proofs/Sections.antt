@@ -93,7 +93,7 @@ module _ (list : List ℕ) (count : ℕ) (room : count ≤ length list) where
       let trace : List ℕ → Option Recorded = λ steps. some (record { settings = settingsOf xs; steps = steps }) in
       elim (split (hasSections xs)) [
         | inl e ↦
-            let whole : count ≡ stepsAt xs + secondCount xs = sym (length-take-le count list room) ∙ sectioned xs e .whole in
+            let whole = sym (length-take-le count list room) ∙ sectioned xs e .whole in
             rw e (ap trace (steps-same (stepsAt xs) (secondCount xs) whole))
         | inr e ↦ rw e refl
       ]

@@ -36,8 +36,9 @@ play-form-requires : tie.Need-play-form-requires
 play-form-requires c κs =
     let t = c .before .before .before in
     let e = t .before .before .before .before in
+    let a = e .before .before .before .before .args in
     let numbers = t .before .before .number-buffer in (
-      rw (t .parse .ensures .0) (form-within (length (numbers .result)) (e .before .before .before .before .args .text .now)),
+      rw (t .parse .ensures .0) (form-within (length (numbers .result)) (a .text .now)),
       omega (arith, numbers .ensures, t .parse .kept .1 .0),
       omega (arith, e .before .if1 .left),
     )
