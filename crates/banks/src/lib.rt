@@ -19,7 +19,7 @@ pub struct Bank {
     pub acts: u32,
 }
 
-// Returns the bank of a physical row. One bank, the usual case, is told without a division.
+// Returns the bank of a physical row. With one bank, the usual case, there is no division.
 pub fn bank_of(s: Settings, row: PhysicalRow) -> usize
     requires { ⌜ (1 ≤ s .b) × (row .0 < 65536) ⌝ }
     ensures { λ r. ⌜ r ≡ bankOf s (row .0) ⌝ }

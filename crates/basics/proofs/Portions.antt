@@ -88,7 +88,7 @@ module _ (k c : ℕ) (xs : List ℕ) (fits : c * k + k ≤ length xs) (new : Lis
       ∙ sym (getD-portion k d xs room i 0 (omega (arith, long))))
 
 module _ (k c : ℕ) (xs : List ℕ) (fits : c * k + k ≤ length xs) where
-  -- a buffer that is told by its elements
+  -- a buffer given by its elements
   portion-put : (new ys : List ℕ) → length new ≡ k → length ys ≡ length xs → ((i : ℕ) → i < k → getD new i 0 ≡ getD ys (c * k + i) 0)
       → ((j : ℕ) → (j < c * k) ⊎ (c * k + k ≤ j) → getD xs j 0 ≡ getD ys j 0) → withPortion k c xs new ≡ ys
   portion-put new ys same alike inner outer =

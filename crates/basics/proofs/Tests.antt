@@ -1,4 +1,4 @@
--- What a test that passed or failed tells. Assumes nothing.
+-- What follows from a test that passed or failed. Assumes nothing.
 use Prim.Native.Nat.{ℕ, _≤_}
 use mathlib.Core.Path.{_≡_, refl, sym, _∙_}
 use mathlib.Core.Bool.{Bool, true, false, not, _&&_, _||_, true≢false, false≢true}

@@ -140,7 +140,7 @@ fn on_lent(
     served(m, done)
 }
 
-// A memory as it is. The contract tells the lengths of its arrays, which lending a part of one asks.
+// A memory as it is. The contract states the lengths of its arrays, which are needed to lend a part of one.
 fn sized(m: Memory) -> Memory
     ensures { λ r. ⌜ Sized r ⌝ }
 {

@@ -78,7 +78,7 @@ pub fn accept(c: Case) -> Case {
     check_answer(c, [0, a[1], a[2], a[3], a[4], part_length(c)])
 }
 
-// `accepted`: with this place, slot moved to, row sent home and estimate, where they are told. A sum has no estimate.
+// `accepted`: with this place, slot moved to, row sent home and estimate, where given. A sum has no estimate.
 pub fn accepted(numbers: &Numbers, c: Case, count: usize) -> Case {
     if count == 0 {
         return accept(c);

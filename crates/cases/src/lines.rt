@@ -12,7 +12,7 @@ use crate::script::Numbers;
 use crate::script::Scan;
 use geometry::Settings;
 
-// `settings`: a new memory. There is one bank where no number of banks is told.
+// `settings`: a new memory. There is one bank where the line has no number of banks.
 fn settings(numbers: &Numbers, c: Case, count: usize) -> Case {
     let b = if count == 7 { numbers[6] } else { 1 };
     let s = Settings {
@@ -97,7 +97,7 @@ pub fn make(c: Case, m: Memory, verb: usize, row: u64, column: u64) -> Case {
     )
 }
 
-// `read`: the buffer has W bytes where no other length is told.
+// `read`: the buffer has W bytes where the line has no other length.
 fn read(numbers: &Numbers, c: Case, count: usize) -> Case {
     let n = if count == 2 {
         numbers[1]

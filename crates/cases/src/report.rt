@@ -5,7 +5,7 @@ use crate::memory::Memory;
 use geometry::Settings;
 use libc::STDOUT_FILENO;
 
-// What the script has come to.
+// What the script has brought about so far.
 pub struct Case {
     // the memory, and the same before the last call
     pub now: Memory,

@@ -131,7 +131,7 @@ inBanks =
     -- 'Ask 4's count only at those of the slot's bank': bank 0 has slot 0's physical row with count A, or bank 1 has it
     ∷ reads (banksAtHome 4 2 (65535 ∷ 65535 ∷ []) (0 ∷ 0 ∷ []) 0) 0 (0 ∷ 1 ∷ 65535 ∷ 2 ∷ 2 ∷ [])
     ∷ reads (banksAtHome 65535 0 (65535 ∷ 4 ∷ []) (0 ∷ 2 ∷ []) 0) 0 (0 ∷ 0 ∷ 65535 ∷ 1 ∷ 1 ∷ [])
-    -- both banks have slot 1's physical row: bank 1, the slot's, tells
+    -- both banks have slot 1's physical row: bank 1, the slot's, decides
     ∷ reads (banksAtHome 5 0 (5 ∷ 65535 ∷ []) (2 ∷ 0 ∷ []) 1) 0 (0 ∷ 2 ∷ 65535 ∷ 3 ∷ 2 ∷ [])
     ∷ reads (banksAtHome 5 2 (5 ∷ 65535 ∷ []) (0 ∷ 0 ∷ []) 1) 0 (0 ∷ 1 ∷ 65535 ∷ 2 ∷ 1 ∷ [])
     -- '8 looks at the bank of p': the slot's bank is full and the home's is not, and the contrary

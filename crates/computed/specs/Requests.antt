@@ -42,10 +42,10 @@ talliedSession =
     tallies (settingsOf 4 2 1 2 2 5)
     (1 ∷ 1 ∷ 1 ∷ 1 ∷ 1 ∷ 1 ∷ 65535 ∷ 1 ∷ 1 ∷ 2 ∷ 2 ∷ 3 ∷ 65535 ∷ 3 ∷ 3 ∷ 2 ∷ 2 ∷ [])
     (
-      (0 ∷ 3 ∷ 0 ∷ 0 ∷ 4 ∷ 2 ∷ 2 ∷ [])
-      ∷ (0 ∷ 0 ∷ 1 ∷ 1 ∷ 1 ∷ 3 ∷ 1 ∷ [])
-      ∷ (0 ∷ 1 ∷ 3 ∷ 3 ∷ 2 ∷ 1 ∷ 2 ∷ [])
-      ∷ []
+    (0 ∷ 3 ∷ 0 ∷ 0 ∷ 4 ∷ 2 ∷ 2 ∷ [])
+    ∷ (0 ∷ 0 ∷ 1 ∷ 1 ∷ 1 ∷ 3 ∷ 1 ∷ [])
+    ∷ (0 ∷ 1 ∷ 3 ∷ 3 ∷ 2 ∷ 1 ∷ 2 ∷ [])
+    ∷ []
     )
     ∷ []
 
@@ -72,7 +72,7 @@ wornSlots =
     -- `passed` and the rise are Q exactly; one more is too many
     ∷ reads (atHome (4 ∷ 7 ∷ 65535 ∷ []) (3 ∷ 2 ∷ 0 ∷ []) 3 1) 0 (0 ∷ 1 ∷ 65535 ∷ 2 ∷ 4 ∷ [])
     ∷ reads (atHome (4 ∷ 7 ∷ 65535 ∷ []) (3 ∷ 2 ∷ 0 ∷ []) 3 2) 0 (9 ∷ 65535 ∷ 65535 ∷ 3 ∷ 2 ∷ [])
-    -- two entries name slot 0's physical row: the lowest tells
+    -- two entries name slot 0's physical row: the lowest decides
     ∷ reads (atHome (4 ∷ 4 ∷ 65535 ∷ []) (1 ∷ 2 ∷ 0 ∷ []) 0 0) 0 (0 ∷ 0 ∷ 65535 ∷ 1 ∷ 1 ∷ [])
     ∷ reads (atHome (4 ∷ 4 ∷ 65535 ∷ []) (2 ∷ 1 ∷ 0 ∷ []) 0 0) 0 (0 ∷ 1 ∷ 65535 ∷ 2 ∷ 2 ∷ [])
     -- the row's own slot stands at the head, has count A after step 2, and is passed

@@ -11,3 +11,4 @@ pub mod Moves
 pub mod Worn
 pub mod Answers
 pub mod Unused
+pub mod Zeros

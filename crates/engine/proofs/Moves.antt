@@ -1,4 +1,4 @@
--- What an accepted access leaves in all that is lent, told without its steps. Assumes nothing.
+-- What an accepted access leaves in all that is lent, stated without its steps. Assumes nothing.
 use Prim.Native.Nat.{ℕ, suc, _+_, _-_, _*_, _%_, _<_, _≤_}
 use native.Mathlib.Nat.{mod-lt}
 use native.Mathlib.Omega.{arith}
@@ -69,7 +69,7 @@ destination-from-in S head over b = mod-lt (head + over) (omega arith)
 pub destination-in : (S : Settings) (σ : State) (r : ℕ) → σ .control .head < S .q → destination S σ r < S .q
 destination-in S σ r b = destination-from-in S (σ .control .head) (skipped S σ r) b
 
--- ---- whether a slot is answered tells whether the row is moved
+-- ---- a slot is answered exactly where the row is moved
 
 module _ (S : Settings) (σ : State) (r : ℕ) (ranges : Ranges S) (head-in : σ .control .head < S .q) where
   real : destination S σ r ≢ empty
@@ -100,7 +100,7 @@ module _ (S : Settings) (σ : State) (r : ℕ) (head-in : σ .control .head < S 
   unfolding destinationFrom
   ahead-then = goes-past (skips S σ r) (S .q) (S .q) (σ .control .head) (σ .control .passed) head-in few room .1
 
-  -- 'by the slots passed plus one', told by the destination
+  -- 'by the slots passed plus one', computed from the destination
   pub rise-to : riseTo S (σ .control .head) (destination S σ r) ≡ rise S σ r
   rise-to = rise-is S (σ .control .head) (skipped S σ r) head-in few
 

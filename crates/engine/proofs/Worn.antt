@@ -28,7 +28,7 @@ own-slot-worn S σ r some rows-long counts-long due away =
     (rw (rows-same S σ r some rows-long counts-long p refl, counts-same S σ r some rows-long counts-long p refl)
     (due-worn (S .a) p (t .rows) (t .counts) (t .spill) (entries-alike S σ r some rows-long counts-long) due))
 
--- of an access that moves its row, with sound tables: told by the estimates after step 2
+-- of an access that moves its row, with sound tables: computed from the estimates after step 2
 pub skips-worn : (S : Settings) (σ : State) (r : ℕ) → Sound S σ → S .l < S .a * (S .k + 1)
     → ((x : ℕ) → CountingAt S (counted S σ r) x) → ((x : ℕ) → trackerAt S (counted S σ r) x .acts ≤ S .l)
     → moves S σ r ≡ true → (s : ℕ) → s < S .q → skips S σ r s ≡ leb (S .a) (estimate S (counted S σ r) (S .n + s))

@@ -1,4 +1,4 @@
--- Slots round Q, told without the memory: the tally may name these too.
+-- Slots round Q, defined without the memory: the tally may name these too.
 -- Assumes nothing.
 use Prim.Native.Nat.{ℕ, zero, suc, _+_, _-_, _%_}
 use mathlib.Core.Bool.{Bool, cond}
@@ -14,7 +14,8 @@ skippedOf skip q (suc k) s = cond (skip s) (suc (skippedOf skip q k ((s + 1) % q
 unfoldable pub destinationFrom : Settings → ℕ → ℕ → ℕ
 destinationFrom S head over = (head + over) % S .q
 
--- '`passed` rises by the slots passed plus one', told by the destination d: the slots from `head` to d, d among them
+-- '`passed` rises by the slots passed plus one', computed from the destination d: the slots from `head` to d, d among
+-- them
 -- (`rise-is` of proofs/Moves.antt: where there is a destination, the two are the same)
 unfoldable pub riseTo : Settings → ℕ → ℕ → ℕ
 riseTo S head d = (d + S .q - head) % S .q + 1

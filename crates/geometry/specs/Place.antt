@@ -1,4 +1,4 @@
--- Document 01, 'One access', step 1: where a row is, told by its forward entry.
+-- Document 01, 'One access', step 1: where a row is, computed from its forward entry.
 -- Assumes nothing.
 use Prim.Native.Nat.{ℕ}
 use mathlib.Core.Bool.{cond}

@@ -1,4 +1,4 @@
--- What an estimate tells of its place, after every list of calls. Assumes nothing.
+-- What follows from an estimate for its place, after every list of calls. Assumes nothing.
 use Prim.Native.Nat.{ℕ, suc, _+_, _%_, _<_, _≤_}
 use native.Mathlib.Nat.{mod-eq-of-lt, mod-self}
 use native.Mathlib.Omega.{arith}

@@ -31,7 +31,7 @@ pub record Picture : Type 0 where
   pub used : ℕ → ℕ
   pub acts : ℕ → ℕ
 
--- the trackers are as told, and have nothing in `spill`
+-- the trackers are as the picture says, and have nothing in `spill`
 pub record Counts (S : Settings) (σ : State) (estimates used acts : ℕ → ℕ) : Type 0 where
   pub estimate-is : (x : ℕ) → x < S .n + S .q → estimate S σ x ≡ estimates x
   pub spill-0 : (x : ℕ) → trackerAt S σ x .spill ≡ 0

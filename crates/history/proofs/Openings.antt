@@ -41,8 +41,8 @@ below h g = elim (g .1) [ inl k ↦ omega arith | inr k ↦ k ]
 within : {a e e′ : ℕ} → e ≤ a → Grew a e e′ → e′ ≤ a
 within h g = elim (g .1) [ inl k ↦ omega arith | inr k ↦ omega arith ]
 
--- whether an estimate has come to the threshold does not change: of a place that is not accessed, and of one that is accessed
--- and whose row stays
+-- whether an estimate has reached the threshold does not change: of a place that is not accessed, and of one that is
+-- accessed and whose row stays
 pub worn-grew : {a e e′ : ℕ} → Grew a e e′ → leb a e′ ≡ leb a e
 worn-grew {a} {e} {e′} g =
     elim (g .1) [ inl k ↦ rw k | inr k ↦ lt-leb a e′ k ∙ sym (lt-leb a e (omega (arith, g .0))) ]
@@ -70,7 +70,7 @@ module _ {a : ℕ} where
   home-new true z pos = here (omega arith) pos
   home-new false z pos = away (omega arith) pos
 
-  -- not opened, and the row did not move; its slot may have come to be gone by
+  -- not opened, and the row did not move; the head may have gone by its slot
   pub home-rests : {h gone : Bool} {o z e o′ e′ : ℕ} (gone′ : Bool) → Home a o z e h gone → (h ≡ false → gone ≡ true → gone′ ≡ true) → o′ ≡ o → Grew a e e′ → Home a o′ z e′ h gone′
   home-rests gone′ (here h k) m q g = here (omega arith) (below k g)
   home-rests false (away h k) m q g = away (omega arith) (below k g)
@@ -139,7 +139,7 @@ module _ {a : ℕ} where
   slot-filled (full h k) (inl c) g low = absurd (false≢true (c .0))
   slot-filled (full h k) (inr c) g low = refilled (omega (arith, c .1)) low
 
-  -- its row is accessed and copied away; the slot may have come to be gone by
+  -- its row is accessed and copied away; the head may have gone by the slot
   pub slot-leaves : {gone : Bool} {o z e o′ e′ : ℕ} (gone′ : Bool) → (gone ≡ true → gone′ ≡ true) → Slot a o z e gone false → o′ ≡ o + 2 → e′ ≡ suc e → Slot a o′ z e′ gone′ true
   slot-leaves true u (full h k) q s = spent (omega arith)
   slot-leaves false u (full h k) q s = free (omega arith) (omega arith)

@@ -1,4 +1,5 @@
--- Lists of reads told by what becomes of the rows: what the calls answer, and what 01's tally makes of it. Assumes nothing.
+-- Lists of reads described by what becomes of the rows: what the calls answer, and what 01's tally makes of it. Assumes
+-- nothing.
 use Prim.Native.Nat.{ℕ, zero, suc, _+_, _*_, _<_, _≤_}
 use native.Mathlib.Nat.{suc-mul}
 use native.Mathlib.Omega.{arith}

@@ -1,4 +1,4 @@
--- What the tally adds for a move, told by the pointers before it. Assumes nothing.
+-- What the tally adds for a move, computed from the pointers before it. Assumes nothing.
 use Prim.Native.Nat.{ℕ, suc, _+_, _<_}
 use native.Mathlib.Omega.{arith}
 use mathlib.Core.Path.{_≡_, refl, sym, ap, _∙_}

@@ -4,13 +4,13 @@ use mathlib.Core.Path.{_≡_, refl, sym, ap, _∙_, subst}
 use mathlib.Core.Logic.{inl, inr}
 use mathlib.Core.Bool.{true}
 use mathlib.Core.List.{List, [], _∷_, _++_, map, append-assoc}
-use lib.ListN.{replicate, length-replicate}
+use lib.ListN.{replicate}
 use Rattle.geometry.specs.declared.Settings.{Settings}
 use Rattle.conditions.specs.Conditions.{rangesHold}
-use Rattle.conditions.proofs.Facts.{limit-holds, lengths-hold}
-use Rattle.engine.specs.State.{State, stateOf, lengthsOf, newControl}
-use Rattle.engine.specs.Calls.{setUp, noted}
-use Rattle.engine.proofs.Facts.{fit-passes}
+use Rattle.conditions.proofs.Facts.{limit-holds}
+use Rattle.engine.specs.State.{State}
+use Rattle.engine.specs.Calls.{setUp}
+use Rattle.engine.proofs.Zeros.{zeros, zeros-accepted}
 use Rattle.history.specs.Tally.{Report, Tally, start, openingsIn, epochs}
 use Rattle.basics.specs.Lists.{Some}
 use Rattle.history.specs.Run.{Call, tick, Event, run, events, reportOf}
@@ -23,33 +23,10 @@ use Rattle.history.proofs.Play.{Course, reportsOf, Play, played, tallie
 -- ---- settings in their ranges
 
 module _ (S : Settings) (narrow : S .w ≡ 1) (ranges : rangesHold S ≡ true) (few : S .l < S .a * (S .k + 1)) where
-  -- memory of the lengths that they ask for
-  lent : State
-  lent =
-      stateOf (replicate ((S .n + S .q) * S .w) 0) (replicate (S .n) 0) (replicate (S .q) 0)
-      (replicate (S .b * S .k) 0) (replicate (S .b * S .k) 0) newControl
-
-  accepted : (setUp S lent) .number ≡ 0
-  unfolding setUp noted lent
-  accepted =
-      fit-passes S lent
-      (record {
-        ranges = ranges;
-        limit = limit-holds S few;
-        lengths = lengths-hold S (lengthsOf lent)
-            (record {
-              store = length-replicate ((S .n + S .q) * S .w) 0;
-              forward = length-replicate (S .n) 0;
-              reverse = length-replicate (S .q) 0;
-              rows = length-replicate (S .b * S .k) 0;
-              counts = length-replicate (S .b * S .k) 0;
-            });
-      })
-
   pub witness : {parts : List Part} {P : List Event → Type 0} → ((σ : State) → Known S σ fresh → P (events S σ (callsOf parts)))
       → Witness S parts P
   witness h =
-      record { accepts = (lent, accepted); reached = λ σ z. h ((setUp S σ) .state) (known-set-up S σ narrow z) }
+      record { accepts = (zeros S, zeros-accepted S ranges (limit-holds S few)); reached = λ σ z. h ((setUp S σ) .state) (known-set-up S σ narrow z) }
 
 -- ---- lists
 

@@ -17,7 +17,7 @@ use Rattle.basics.specs.Lists.{Some}
 use Rattle.history.specs.Run.{read, access, Call, rank, tick, Event, events, reportOf}
 use Rattle.history.specs.Window.{ticksIn, stretchOf}
 
--- ---- lists, told in parts
+-- ---- lists, written in parts
 
 pub data Part : Type 0 where
   -- a row that is read so many times on end

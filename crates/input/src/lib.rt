@@ -1,5 +1,6 @@
-// Reads all that a file descriptor gives, and tells a read that fails from the end of the input, which `io::read_full` does
-// not. No contract can say what a read answers, nor which bytes come from outside; what follows from an answer is `nextOf`.
+// Reads all that a file descriptor gives, and distinguishes a read that fails from the end of the input, which
+// `io::read_full` does not. No contract can say what a read answers, nor which bytes come from outside; what follows
+// from an answer is `nextOf`.
 ghost use mathlib.Core.Path.{_≡_};
 ghost use Prim.Native.Nat.{_≤_};
 ghost use lib.ListN.{length};

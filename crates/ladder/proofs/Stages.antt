@@ -110,7 +110,7 @@ checked S σ z =
           counts-fit ((trackerOf S σ c) .acts) (portion (S .k) c (σ .counts)) (omega (arith, t .acts-in, R .l-high)) (t .none-above);
     }
 
--- what the code asks of the tables; x: the number of 1 to 4, as the code has it
+-- what the code requires of the tables; x: the number of 1 to 4, as the code has it
 pub tabled : (S : Settings) (σ : State) {x : ℕ} → x ≡ tickNumber S σ → x ≡ 0 → Tabled S (σ .tables .forward) (σ .tables .reverse)
 tabled S σ e z =
     let C = checked S σ (sym e ∙ z) in
@@ -198,7 +198,7 @@ module _ (S : Settings) (σ : State) (a : Asked) where
   abbrev pub earlyNumber : ℕ
   earlyNumber = tickNumber S σ ▹ rowNumber S (σ .tables) a
 
-  -- as the code comes to it: x for 1 to 4, then y
+  -- in the order of the code: x for 1 to 4, then y
   pub early-ends : {x : ℕ} → x ≡ tickNumber S σ → x ≢ 0 → x ≡ earlyNumber
   early-ends first n = ends _ first n
 

@@ -62,7 +62,8 @@ fn tracker_unsound(s: Settings, spill: u32, acts: u32, counts: &[u32]) -> bool
     (s.l < acts) | (acts < spill) | (s.a <= spill) | count_scan::any_above(counts, acts)
 }
 
-// Tells whether 4 applies because of the numbers of some bank from the second on. One bank, the usual case, is told at once.
+// Tells whether 4 applies because of the numbers of some bank from the second on. With one bank, the usual case, it
+// does not.
 pub fn others_unsound(s: Settings, control: Control, counts: &[u32]) -> bool
     requires { ⌜ (1 ≤ s .b) × (s .b ≤ mostBanks) × (length (now counts) ≡ s .b * s .k) ⌝ }
     ensures { λ r. ⌜ r ≡ othersUnsound s (control .spill) (control .acts) (now (counts .entry)) ⌝ }

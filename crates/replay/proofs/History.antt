@@ -15,7 +15,7 @@ use Rattle.trace_steps.specs.Steps.{callOf, stepsFrom}
 use Rattle.replay.specs.Memory.{lent, memoryFits}
 use Rattle.replay.specs.History.{Says, Plays, TracesAreHistories, EveryFile}
 use Rattle.replay.specs.History.{Prints, nothing, formless, unsettled, too-large, plays}
-use Rattle.replay.proofs.Lent.{set-up-accepts}
+use Rattle.replay.proofs.Memory.{set-up-accepts}
 use Rattle.replay.proofs.Judging.{settings-refused, memory-refused, all-run, empty-replayed, form-replayed}
 use Rattle.replay.proofs.EmptyTrace.{traces-stay}
 

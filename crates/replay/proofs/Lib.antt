@@ -1,4 +1,3 @@
-pub mod Lent
 pub mod Memory
 pub mod Judging
 pub mod EmptyTrace

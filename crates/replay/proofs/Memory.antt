@@ -12,9 +12,15 @@ use Rattle.basics.proofs.Tests.{and-left, and-right}
 use Rattle.conditions.specs.Conditions.{rangesHold}
 use Rattle.conditions.proofs.Facts.{ranges-facts}
 use Rattle.engine.specs.State.{stateOf, newControl}
+use Rattle.engine.proofs.Facts.{settings-facts}
+use Rattle.engine.proofs.Zeros.{zeros-accepted}
 use Rattle.trace_steps.specs.Steps.{runLines}
 use Rattle.trace_steps.proofs.Blank.{Part, part}
-use Rattle.replay.specs.Memory.{storeBytes, trackerEntries, lent, memoryFits, mostStore, mostRows, mostSlots, mostEntries}
+use Rattle.replay.specs.Memory.{storeBytes, trackerEntries, lent, SetUpAccepts, memoryFits, mostStore, mostRows, mostSlots, mostEntries}
+
+-- it is as long as set-up asks
+pub set-up-accepts : SetUpAccepts
+set-up-accepts S h = let passed = settings-facts S h in zeros-accepted S (passed .0) (passed .1)
 
 -- the buffers, of which the first so many elements are lent
 pub record Memory (S : Settings) (size entries : ℕ) (store forward reverse rows counts : List ℕ) : Type 0 where

@@ -20,7 +20,7 @@ abbrev pub LongRefused : Type 0
 LongRefused = (text : List ℕ) → 65536 < length text → replayed text ≡ refusedLine
 
 -- 'A file with a first count and no second section is refused as before': it has a number, and fewer than the eight that two
--- sections have at least, or fewer than the first count tells (nine where it is 7)
+-- sections have at least, or fewer than the first count requires (nine where it is 7)
 abbrev pub OneSectionRefused : Type 0
 OneSectionRefused =
     (text : List ℕ) → 1 ≤ length (numbers text)

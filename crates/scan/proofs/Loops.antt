@@ -22,7 +22,7 @@ or-false : (a : Bool) → a || false ≡ a
 or-false true = refl
 or-false false = refl
 
--- ---- the loop with no branch, over the block of that size from index `at` on: `found` tells of its first i entries
+-- ---- the loop with no branch, over the block of that size from index `at` on: `found` is for its first i entries
 
 pub record Looked (f : ℕ → Bool) (xs : List ℕ) (at size : ℕ) (found : Bool) (i : ℕ) : Type 0 where
   pub within : i ≤ size

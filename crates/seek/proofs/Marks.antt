@@ -193,7 +193,7 @@ module _ {S : Settings} {changed : ℕ} {rows counts : List ℕ} (seekable : See
 
 -- ---- all banks
 
--- the marks tell of the banks below c
+-- the marks are right for the slots of the banks below c
 pub record MarkedBelow (S : Settings) (changed : ℕ) (rows counts : List ℕ) (marks : List Bool) (c : ℕ) : Type 0 where
   pub within : c ≤ S .b
   pub long : length marks ≡ 5500

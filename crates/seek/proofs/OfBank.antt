@@ -1,4 +1,5 @@
--- The entries of one bank, with one left out: where they stand, and what the search of them tells. Assumes nothing.
+-- The entries of one bank, with one left out: where they stand, and what follows from the search of them. Assumes
+-- nothing.
 use Prim.Native.Nat.{ℕ, _+_, _*_, _<_, _≤_}
 use native.Mathlib.Omega.{arith}
 use mathlib.Core.Path.{_≡_, refl, sym, ap, _∙_}

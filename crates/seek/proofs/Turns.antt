@@ -43,7 +43,7 @@ module _ {skip : ℕ → Bool} {q most from : ℕ} where
     pub turned-all : most ≤ n → n ≡ skippedOf skip q most from
     turned-all h = omega (arith, t .same, skip-most skip q (most - n) slot)
 
--- the first slots tell all, where one of them is not skipped (few: the lesser of all and of the first)
+-- the first slots decide, where one of them is not skipped (few: the lesser of all and of the first)
 pub first-tell : (skip : ℕ → Bool) (q most from first : ℕ) {few n : ℕ} → few ≡ cond (ltb most first) most first
     → n ≡ skippedOf skip q few from → n < first → n ≡ skippedOf skip q most from
 first-tell skip q most from first {few} {n} e told =

@@ -1,4 +1,4 @@
--- What the head skips, told before step 2 is done.
+-- What the head skips, computed before step 2 is done.
 -- Assumes nothing.
 use Prim.Native.Nat.{ℕ, _-_, _*_, _<_, _≤_}
 use mathlib.Core.Path.{_≡_}
@@ -39,16 +39,17 @@ pub record Seekable (S : Settings) (changed : ℕ) (rows counts : List ℕ) : Ty
   pub counts-long : length counts ≡ S .b * S .k
   pub within : changed < length rows
 
--- what one entry of bank c does to the marks of the slots: it tells of the slot whose physical row it names, where it names one
--- of its bank
+-- what one entry of bank c does to the marks of the slots: it sets the mark of the slot whose physical row it names,
+-- where it names one of its bank
 abbrev pub markedBy : Settings → ℕ → ℕ → Bool → List Bool → List Bool
 markedBy S c name is marks = cond (ltb name (S .n) || not (eqb (bankOf S name) c)) marks (set marks (name - S .n) is)
 
--- what the head skips, told by the marks
+-- what the head skips, read from the marks
 abbrev pub skipsMarked : ℕ → List Bool → ℕ → Bool
 skipsMarked entry marks s = eqb entry s || getD marks s false
 
--- the entries of bank c have made the marks `after` of the marks `before`: the slots of bank c are told, the others are as before
+-- the entries of bank c have made the marks `after` of the marks `before`: those of the slots of bank c are right, the
+-- others are as before
 pub record MarkedIn (S : Settings) (changed : ℕ) (rows counts : List ℕ) (c : ℕ) (before after : List Bool) : Type 0 where
   pub long : length after ≡ length before
   pub told : (s : ℕ) → s < S .q → bankOf S (slotRow S s) ≡ c → getD after s false ≡ wornBefore S changed rows counts (slotRow S s)

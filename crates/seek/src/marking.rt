@@ -37,7 +37,7 @@ fn mark(s: Settings, bank: usize, name: u16, is: bool, marks: &mut [bool])
     }
 }
 
-// Marks every slot of a bank, from the last entry of the bank to the first: so the lowest entry that names a slot has the say.
+// Marks every slot of a bank, from the bank's last entry to its first: so the lowest entry that names a slot decides.
 fn mark_bank(
     s: Settings,
     bank: usize,

@@ -1,4 +1,4 @@
--- An empty trace, told by the numbers of the file. Assumes nothing.
+-- An empty trace, in terms of the numbers of the file. Assumes nothing.
 use Prim.Native.Nat.{ℕ, _<_, _≤_}
 use native.Mathlib.Omega.{arith}
 use mathlib.Core.Path.{_≡_, refl, ap}

@@ -1,4 +1,4 @@
--- The form of a trace, told by the list that holds its numbers, and by what was read of a text. Assumes nothing.
+-- The form of a trace, from the list that holds its numbers, and from what was read of a text. Assumes nothing.
 use Prim.Native.Nat.{ℕ, _+_, _<_, _≤_}
 use native.Mathlib.Nat.{le-refl}
 use native.Mathlib.Omega.{arith}
@@ -58,7 +58,7 @@ module _ (xs : List ℕ) where
   other-first : isFirstCount (firstCount xs) ≡ false → formOf xs ≡ Refused
   other-first e = not-sectioned (λ s. false≢true (sym e ∙ s .taken))
 
-  -- no second section: fewer numbers than the first count tells, or than it could tell
+  -- no second section: fewer numbers than the first count requires, or than any first count requires
   pub one-section : length xs < stepsAt xs → formOf xs ≡ Refused
   one-section h = not-sectioned (λ s. omega (arith, s .whole))
 

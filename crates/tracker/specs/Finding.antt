@@ -29,7 +29,7 @@ pub record Findable (k : ℕ) (bank : Bank) (p : ℕ) (rows counts : List ℕ) :
   -- a count of the bank can rise by 1
   pub counts-small : some (λ count. ltb 4294967294 count) (portion k (bank .index) counts) ≡ false
 
--- before its estimate is told: the count of the entry, if any, can rise by 1
+-- before its estimate is computed: the count of the entry, if any, can rise by 1
 pub record Countable (entry k : ℕ) (bank : Bank) (counts : List ℕ) : Type 0 where
   pub in-counts : bank .index * k + k ≤ length counts
   pub small : entry < bank .index * k + k → getD counts entry 0 < 4294967295

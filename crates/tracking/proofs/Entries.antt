@@ -1,4 +1,4 @@
--- Step 2 told by its entry, found and then followed, is step 2. Assumes nothing.
+-- Step 2 given by its entry, found and then followed, is step 2. Assumes nothing.
 use Prim.Native.Nat.{ℕ, _<_}
 use native.Mathlib.Omega.{arith}
 use mathlib.Core.Path.{_≡_, sym, ap, _∙_}

@@ -22,7 +22,7 @@ use Rattle.tracking.proofs.Sums.{getD-any}
 use Rattle.tracking.proofs.Due.{due-least}
 use Rattle.tracking.proofs.Tracking.{estimateOf}
 
--- where `spill` is below the threshold, the estimate tells it
+-- where `spill` is below the threshold, it follows from the estimate
 pub worn-estimate : (a : ℕ) (rows counts : List ℕ) (spill x : ℕ) → length rows ≡ length counts → spill < a → worn a rows counts x ≡ leb a (estimateOf rows counts spill x)
 unfolding worn estimateOf
 worn-estimate a rows counts spill x long below =
@@ -104,7 +104,7 @@ module _ (a p : ℕ) (rows counts : List ℕ) (spill : ℕ) (long : length rows 
         ])
       ]
 
-  -- ---- another row: whether it is worn after step 2 is told before it by all entries but the one that step 2 changes
+  -- ---- another row: before step 2, all entries but the one that it changes decide whether the row is worn after it
 
   module _ (x : ℕ) (other : x ≢ p) (named : x ≢ empty) where
     beside : (i c : ℕ) (now : List ℕ) → i < length rows → indexOf x now ≡ indexOf x (set rows i empty) → length now ≡ length rows

@@ -1,4 +1,4 @@
--- Step 2 told by the entry that it changes, as the code does it: find the entry, which writes nothing, and then follow.
+-- Step 2 given by the entry that it changes, as the code does it: find the entry, which writes nothing, then follow.
 -- Assumes nothing.
 use Prim.Native.Nat.{ℕ, suc, _+_, _*_}
 use mathlib.Core.Bool.{cond}

@@ -44,7 +44,7 @@ pub record Judgeable (S : Settings) (ring : Ring) (over : ℕ) (forward reverse 
   pub passed-in : ring .passed ≤ S .q
   pub over-in : over ≤ S .q
 
--- the slots that the head skips for the row that was found, told before step 2 is done
+-- the slots that the head skips for the row that was found, computed before step 2 is done
 abbrev pub skippedFor : Settings → Ring → Found → List ℕ → List ℕ → ℕ
 skippedFor S ring f rows counts = skippedBefore S (ring .head) (f .entry .0) (f .update .entry) rows counts
 

@@ -109,9 +109,9 @@ pub fn decide(
     judge(s, ring, over, forward, reverse)
 }
 
-// Tells whether an estimate calls for a move: there is one, and it is a multiple of A. 0 stands for none and is below A, so
-// that what is below A is told without a division; and so is A itself, which every estimate of a row that is due is in a
-// history.
+// Tells whether an estimate calls for a move: there is one, and it is a multiple of A. An estimate below A, 0 for none
+// among them, is judged without a division, and so is A itself, which in a history is the estimate of every row that is
+// due.
 pub fn is_due(s: Settings, estimate: u32) -> bool
     requires { ⌜ 1 ≤ s .a ⌝ }
     ensures { λ r. ⌜ r ≡ isDue (s .a) estimate ⌝ }

@@ -1,4 +1,4 @@
-//! The figures as tables, for a terminal and in Markdown, and what they come to.
+//! The figures as tables, for a terminal and in Markdown, and whether the targets are met.
 
 use crate::measure::Cell;
 use crate::runner::{IDIOMATIC, PROVED, RUNNERS, TUNED};

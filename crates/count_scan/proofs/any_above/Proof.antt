@@ -1,4 +1,4 @@
--- `count_scan::any_above` meets its contract. Invariant: `found` tells of the first i counts. Assumes nothing.
+-- `count_scan::any_above` meets its contract. Invariant: `found` is the answer for the first i counts. Assumes nothing.
 use Prim.Native.Nat.{_-_}
 use native.Mathlib.Nat.{zero-add}
 use native.Mathlib.Omega.{arith}

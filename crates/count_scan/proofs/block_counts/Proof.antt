@@ -1,4 +1,4 @@
--- `count_scan::block_counts` meets its contract. Invariant: `found` tells of the block's first i entries.
+-- `count_scan::block_counts` meets its contract. Invariant: `found` is the answer for the block's first i entries.
 -- Assumes nothing.
 use Prim.Native.Nat.{_-_}
 use mathlib.Core.Path.{refl}

@@ -1,4 +1,4 @@
--- `others_unsound` tells what is found of the banks so far, bank after bank. Assumes nothing.
+-- `others_unsound`: `found` is whether 4 applies because of one of the banks so far, bank after bank. Assumes nothing.
 use Prim.Native.Nat.{ℕ, suc, _+_, _-_, _*_, _≤_}
 use mathlib.Core.Path.{_≡_, refl, ap, _∙_}
 use mathlib.Core.Bool.{Bool}

@@ -1,4 +1,4 @@
--- `row_scan::block_names` meets its contract. Invariant: `found` tells of the block's first i entries.
+-- `row_scan::block_names` meets its contract. Invariant: `found` is the answer for the block's first i entries.
 -- Assumes nothing.
 use Prim.Native.Nat.{_-_}
 use mathlib.Core.Path.{refl}

@@ -1,4 +1,4 @@
--- `skipped`: the first 16 slots tell all, or all are looked at. Assumes nothing.
+-- `skipped`: the first 16 slots decide, or all slots are looked at. Assumes nothing.
 use borrow.Author.Needs.{needs}
 use Rattle.seek.proofs.Turns.{first-tell}
 use Rattle.seek.proofs.skipped.Statement.{statement}

@@ -1,4 +1,4 @@
--- `trace_file::parse` meets its contract: what was read tells the form, and the list is long enough for every trace.
+-- `trace_file::parse` meets its contract: the form follows from what was read, and the list is long enough for every trace.
 -- Assumes nothing.
 use Prim.Native.Nat.{_≤_}
 use native.Mathlib.Omega.{arith}

@@ -1,4 +1,4 @@
--- `find`: each of the two searches is told by one law of `entryIn`. Assumes nothing.
+-- `find`: for each of the two searches there is one law of `entryIn`. Assumes nothing.
 use Prim.Native.Nat.{ℕ, _+_, _*_, _≤_}
 use native.Mathlib.Omega.{arith}
 use mathlib.Core.Path.{_≡_, ap, _∙_}

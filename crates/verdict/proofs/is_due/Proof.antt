@@ -1,4 +1,4 @@
--- `is_due` tells that an estimate below A is none or no multiple, and that A is one. Assumes nothing.
+-- `is_due`: an estimate below A is none or no multiple of A, and A is a multiple. Assumes nothing.
 use mathlib.Core.Path.{sym, ap, _∙_}
 use native.Mathlib.Omega.{arith}
 use borrow.Author.Tests.{ne-eqb}

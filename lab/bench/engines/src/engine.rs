@@ -1,6 +1,6 @@
 //! The engine of document 01 in plain Rust, with a tracker for each bank (document 02, Ask 5) and with every refusal
-//! judged at every call. How tables are searched, and so how the slot for a move is found, is left open: the idiomatic
-//! and the tuned engine differ in nothing else. It has the calls that the streams make.
+//! judged at every call. How tables are searched, and so how the slot for a move is found, is a parameter: the
+//! idiomatic and the tuned engine differ in nothing else. It has the calls that the streams make.
 
 use crate::scan::Scan;
 use crate::worn::{Passes, Ring, Tracked};

@@ -1,4 +1,4 @@
--- `mark_bank`: the marks tell of the bank's entries from i on, at each turn of the loop. Assumes nothing.
+-- `mark_bank`: at each turn of the loop the marks are those of the bank's entries from i on. Assumes nothing.
 use native.Mathlib.Omega.{arith}
 use borrow.Author.Needs.{needs}
 use Rattle.seek.proofs.OfBank.{rows-fit, counts-fit}

@@ -1,4 +1,4 @@
--- `mark_worn`: the marks tell of the banks that are done, at each turn of the loop. Assumes nothing.
+-- `mark_worn`: at each turn of the loop the marks are right for the banks that are done. Assumes nothing.
 use Prim.Native.Nat.{_-_}
 use native.Mathlib.Omega.{arith}
 use mathlib.Core.Path.{sym, ap, _∙_}
