@@ -1,28 +1,21 @@
 // A trace file replayed on the engine: from the file's bytes to the bytes printed (document 01, 'Trace program'; document
-// 02, Asks 1 and 5).
+// 02, Asks 1 and 5). The memory on which it is played is `new_memory`.
 ghost use mathlib.Core.Path.{_≡_};
-ghost use mathlib.Core.Bool.{true};
 ghost use Prim.Native.Nat.{_+_, _*_, _≤_};
-ghost use lib.ListN.{length, take, replicate};
-ghost use Rattle.conditions.specs.Conditions.{rangesHold};
+ghost use lib.ListN.{length, take};
 ghost use Rattle.trace_file.specs.Form.{mostNumbers, recorded, StepsWithin};
-ghost use Rattle.trace_steps.specs.Steps.{lineRoom, runLines};
-ghost use Rattle.replay.specs.Memory.{storeBytes, trackerEntries, lent, memoryFits};
-ghost use Rattle.replay.specs.Memory.{mostStore, mostRows, mostSlots, mostEntries};
+ghost use Rattle.trace_steps.specs.Steps.{lineRoom};
 ghost use Rattle.replay.specs.Replay.{pageRoom, refusedLine, played, playedForm, printedOn};
 use geometry::Settings;
 use trace_file::Form;
+
+mod new_memory;
 
 // The largest store of a trace, in bytes.
 const MOST_STORE: usize = 32768;
 
 // The most tracker entries of a trace, of all banks together.
 const MOST_ENTRIES: usize = 4096;
-
-// The most visible rows and slots that the settings allow.
-const MOST_ROWS: usize = 60000;
-
-const MOST_SLOTS: usize = 5500;
 
 // The most steps of a trace.
 const MOST_STEPS: usize = 4096;
@@ -32,64 +25,6 @@ const LONGEST_LINE: usize = 105;
 
 // The length of a page that has room for what any file prints.
 pub const PAGE: usize = LONGEST_LINE * (MOST_STEPS + 1);
-
-// These return zeros for the store and each table, as many as a trace can need.
-fn store_buffer() -> [u8; MOST_STORE]
-    ensures { λ r. ⌜ r ≡ replicate mostStore 0 ⌝ }
-{
-    [0u8; MOST_STORE]
-}
-
-fn forward_buffer() -> [u16; MOST_ROWS]
-    ensures { λ r. ⌜ r ≡ replicate mostRows 0 ⌝ }
-{
-    [0u16; MOST_ROWS]
-}
-
-fn reverse_buffer() -> [u16; MOST_SLOTS]
-    ensures { λ r. ⌜ r ≡ replicate mostSlots 0 ⌝ }
-{
-    [0u16; MOST_SLOTS]
-}
-
-fn rows_buffer() -> [u16; MOST_ENTRIES]
-    ensures { λ r. ⌜ r ≡ replicate mostEntries 0 ⌝ }
-{
-    [0u16; MOST_ENTRIES]
-}
-
-fn counts_buffer() -> [u32; MOST_ENTRIES]
-    ensures { λ r. ⌜ r ≡ replicate mostEntries 0 ⌝ }
-{
-    [0u32; MOST_ENTRIES]
-}
-
-// Makes set-up and every step on new memory with a store of `size` bytes and so many tracker entries, and prints their
-// lines.
-fn on_new_memory(s: Settings, size: usize, entries: usize, steps: &[u32], page: &mut [u8]) -> usize
-    requires { ⌜ (rangesHold s ≡ true) × (memoryFits s ≡ true) × (size ≡ storeBytes s) × (entries ≡ trackerEntries s)
-        × (lineRoom * length (now steps) ≤ length (now page)) ⌝ }
-    ensures short { λ r. ⌜ r ≤ length (now (page .entry)) ⌝ }
-    ensures printed { λ r. ⌜ take r (now (page .exit)) ≡ runLines s (lent s) (now (steps .entry)) ⌝ }
-{
-    let mut store = store_buffer();
-    let mut forward = forward_buffer();
-    let mut reverse = reverse_buffer();
-    let mut rows = rows_buffer();
-    let mut counts = counts_buffer();
-    let n = s.n as usize;
-    let q = s.q as usize;
-    trace_steps::run(
-        s,
-        steps,
-        &mut store[..size],
-        &mut forward[..n],
-        &mut reverse[..q],
-        &mut rows[..entries],
-        &mut counts[..entries],
-        page,
-    )
-}
 
 // Puts the line for a trace that is refused.
 pub fn put_refused(page: &mut [u8]) -> usize
@@ -117,7 +52,7 @@ fn play(s: Settings, steps: &[u32], page: &mut [u8]) -> usize
     if !fits {
         return put_refused(page);
     }
-    on_new_memory(s, size, entries, steps, page)
+    new_memory::on_new_memory(s, size, entries, steps, page)
 }
 
 // Returns room for the numbers of the longest trace.

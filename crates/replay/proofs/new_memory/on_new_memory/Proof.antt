@@ -2,8 +2,8 @@
 use Rattle.conditions.proofs.Facts.{ranges-facts}
 use Rattle.replay.proofs.Memory.{Memory, new-memory, new-lines}
 use borrow.Author.Needs.{needs}
-use Rattle.replay.proofs.on_new_memory.Statement.{statement}
-use Rattle.replay.proofs.on_new_memory.Tie as tie
+use Rattle.replay.proofs.new_memory.on_new_memory.Statement.{statement}
+use Rattle.replay.proofs.new_memory.on_new_memory.Tie as tie
 
 -- ---- the places that the needs look back to
 
