@@ -1,9 +1,9 @@
 -- Document 02, Ask 5: 'the record's places for banks from B on'. What is said of them is `Unused` of crate history.
 -- Assumes nothing.
-use Prim.Native.Nat.{ℕ}
+use Prim.Native.Nat.{ℕ, _-_}
 use mathlib.Core.Path.{_≡_}
 use mathlib.Core.List.{List, _++_}
-use lib.ListN.{length, take}
+use lib.ListN.{length, take, drop, replicate}
 use Rattle.geometry.specs.declared.Settings.{Settings}
 use Rattle.geometry.specs.declared.Control.{Control}
 use Rattle.banks.specs.Banks.{mostBanks}
@@ -29,3 +29,13 @@ withUnused S spill acts σ =
         acts = take (S .b) (σ .control .acts) ++ acts;
       };
     }
+
+-- the same numbers stand there in two records
+abbrev pub SameUnused : Settings → Control → Control → Type 0
+SameUnused S control other =
+    (drop (S .b) (control .spill) ≡ drop (S .b) (other .spill)) × (drop (S .b) (control .acts) ≡ drop (S .b) (other .acts))
+
+-- they are 0
+abbrev pub UnusedZero : Settings → Control → Type 0
+UnusedZero S control =
+    (drop (S .b) (control .spill) ≡ replicate (mostBanks - S .b) 0) × (drop (S .b) (control .acts) ≡ replicate (mostBanks - S .b) 0)

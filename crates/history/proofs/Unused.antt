@@ -1,10 +1,10 @@
 -- No call looks at or changes the places for banks from B on, and set-up makes them 0. Assumes nothing.
-use Prim.Native.Nat.{ℕ, _-_}
+use Prim.Native.Nat.{ℕ}
 use mathlib.Core.Path.{_≡_, refl, sym, ap, _∙_}
 use mathlib.Core.Logic.{inl, inr}
 use mathlib.Core.List.{List, []}
 use lib.Dec.{eqb}
-use lib.ListN.{drop, replicate, take-append-drop}
+use lib.ListN.{drop, take-append-drop}
 use borrow.Author.Tests.{eq-eqb, eqb-true, eqb-false}
 use Rattle.geometry.specs.declared.Settings.{Settings}
 use Rattle.basics.proofs.Cases.{split}
@@ -13,7 +13,7 @@ use Rattle.banks.specs.Banks.{mostBanks}
 use Rattle.engine.specs.State.{State}
 use Rattle.engine.specs.Ladder.{setUpNumber}
 use Rattle.engine.specs.Calls as calls
-use Rattle.engine.specs.Unused.{HasPlaces, withUnused}
+use Rattle.engine.specs.Unused.{HasPlaces, withUnused, SameUnused, UnusedZero}
 use Rattle.engine.proofs.Facts.{fit, accepted}
 use Rattle.engine.proofs.Trackers.{fill-behind}
 use Rattle.engine.proofs.Unused.{behind, places, tracked-alike, move-alike, state-alike}
@@ -87,8 +87,7 @@ module _ (S : Settings) (σ : State) (has : HasPlaces (σ .control)) (c : Call) 
       ap (λ (τ : State). (step S τ c) .state) (sym (itself S σ))
       ∙ ap (λ (s : Step). s .state) (step-alike S σ (drop (S .b) (σ .control .spill)) (drop (S .b) (σ .control .acts)) has c)
 
-  call-keeps : (drop (S .b) (after .control .spill) ≡ drop (S .b) (σ .control .spill))
-      × (drop (S .b) (after .control .acts) ≡ drop (S .b) (σ .control .acts))
+  call-keeps : SameUnused S (after .control) (σ .control)
   call-keeps = (
     behind (S .b) (after .control .spill) _ (ap (λ (τ : State). τ .control .spill) after-is),
     behind (S .b) (after .control .acts) _ (ap (λ (τ : State). τ .control .acts) after-is),
@@ -106,9 +105,7 @@ module _ (S : Settings) (σ : State) where
   unfolding calls.setUp calls.noted
   set-up-same spill acts z = rw (eq-eqb (setUpNumber S σ) 0 z)
 
-  set-up-zeros : (calls.setUp S σ) .number ≡ 0
-      → (drop (S .b) ((calls.setUp S σ) .state .control .spill) ≡ replicate (mostBanks - S .b) 0)
-      × (drop (S .b) ((calls.setUp S σ) .state .control .acts) ≡ replicate (mostBanks - S .b) 0)
+  set-up-zeros : (calls.setUp S σ) .number ≡ 0 → UnusedZero S ((calls.setUp S σ) .state .control)
   unfolding calls.setUp calls.noted
   set-up-zeros z =
       let zeros = fill-behind (S .b) mostBanks 0 (ranges-facts S (fit S σ z .ranges) .b-high) in

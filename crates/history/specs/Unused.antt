@@ -2,15 +2,13 @@
 -- from B on are 0 at set-up and not looked at or changed afterwards.' Its proof is `unused` of proofs/Unused.antt; the same of
 -- the C functions is `UnusedServed` of crate `served`.
 -- Assumes nothing.
-use Prim.Native.Nat.{ℕ, _-_}
+use Prim.Native.Nat.{ℕ}
 use mathlib.Core.Path.{_≡_}
 use mathlib.Core.List.{List}
-use lib.ListN.{drop, replicate}
 use Rattle.geometry.specs.declared.Settings.{Settings}
-use Rattle.banks.specs.Banks.{mostBanks}
 use Rattle.engine.specs.State.{State}
 use Rattle.engine.specs.Calls.{setUp, inspectPart}
-use Rattle.engine.specs.Unused.{HasPlaces, withUnused}
+use Rattle.engine.specs.Unused.{HasPlaces, withUnused, SameUnused, UnusedZero}
 use Rattle.history.specs.Run.{Call, step}
 
 pub record Unused : Type 0 where
@@ -20,8 +18,7 @@ pub record Unused : Type 0 where
       ≡ record { state = withUnused S spill acts ((step S σ c) .state); answer = (step S σ c) .answer }
   -- so no call changes them
   pub kept : (S : Settings) (σ : State) → HasPlaces (σ .control) → (c : Call)
-      → (drop (S .b) ((step S σ c) .state .control .spill) ≡ drop (S .b) (σ .control .spill))
-      × (drop (S .b) ((step S σ c) .state .control .acts) ≡ drop (S .b) (σ .control .acts))
+      → SameUnused S ((step S σ c) .state .control) (σ .control)
   -- inspect's part is the same too
   pub part : (S : Settings) (σ : State) (spill acts : List ℕ) → HasPlaces (σ .control) → (r : ℕ)
       → inspectPart S (withUnused S spill acts σ) r ≡ inspectPart S σ r
@@ -32,5 +29,4 @@ pub record Unused : Type 0 where
       → (setUp S (withUnused S spill acts σ)) .state ≡ (setUp S σ) .state
   -- .. and makes them 0
   pub set-up-zero : (S : Settings) (σ : State) → (setUp S σ) .number ≡ 0
-      → (drop (S .b) ((setUp S σ) .state .control .spill) ≡ replicate (mostBanks - S .b) 0)
-      × (drop (S .b) ((setUp S σ) .state .control .acts) ≡ replicate (mostBanks - S .b) 0)
+      → UnusedZero S ((setUp S σ) .state .control)

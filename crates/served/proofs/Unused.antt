@@ -1,13 +1,11 @@
 -- The C functions do not look at or change the places for banks from B on. Assumes nothing.
-use Prim.Native.Nat.{ℕ, _-_}
-use mathlib.Core.Path.{_≡_, refl, sym, ap, _∙_, subst}
+use Prim.Native.Nat.{ℕ}
+use mathlib.Core.Path.{_≡_, refl, sym, ap, _∙_}
 use mathlib.Core.List.{List}
-use lib.ListN.{drop, replicate}
 use Rattle.geometry.specs.declared.Settings.{Settings}
-use Rattle.banks.specs.Banks.{mostBanks}
 use Rattle.engine.specs.State.{State}
 use Rattle.engine.specs.Calls as calls
-use Rattle.engine.specs.Unused.{HasPlaces, withUnused}
+use Rattle.engine.specs.Unused.{HasPlaces, withUnused, SameUnused, UnusedZero}
 use Rattle.engine.proofs.Unused.{inspect-alike}
 use Rattle.figures.specs.Promises.{SetUpPromise}
 use Rattle.figures.specs.Span.{spanOf}
@@ -34,13 +32,9 @@ module _ (S : Settings) (before after : State) (has : HasPlaces (before .control
       ∙ sym (unused .same S before spill acts has ((seen x) .call))))
       (λ row span p. (p .0 ∙ sym (span-alike spill acts row), ap (withUnused S spill acts) (p .1)))
 
-  kept-served : (x : Exchange) → Promised S before x after
-      → (drop (S .b) (after .control .spill) ≡ drop (S .b) (before .control .spill))
-      × (drop (S .b) (after .control .acts) ≡ drop (S .b) (before .control .acts))
+  kept-served : (x : Exchange) → Promised S before x after → SameUnused S (after .control) (before .control)
   kept-served =
-      exchange-cases (λ x. Promised S before x after
-      → (drop (S .b) (after .control .spill) ≡ drop (S .b) (before .control .spill))
-      × (drop (S .b) (after .control .acts) ≡ drop (S .b) (before .control .acts)))
+      exchange-cases (λ x. Promised S before x after → SameUnused S (after .control) (before .control))
       (λ x t p.
       let at : after ≡ (run.step S before ((seen x) .call)) .state = ap (λ (s : run.Step). s .state) (told S before after x t p) in
       rw at (unused .kept S before has ((seen x) .call)))
@@ -61,8 +55,7 @@ module _ (S : Settings) (before after : State) (begun : SetUpPromise S before af
       ∙ ap (λ (σ : State). calls.notedOf σ ((calls.setUp S (withUnused S spill acts before)) .number))
       (new ∙ sym (unused .set-up-state S before spill acts zero))
 
-  zero-served : (drop (S .b) (after .control .spill) ≡ replicate (mostBanks - S .b) 0)
-      × (drop (S .b) (after .control .acts) ≡ replicate (mostBanks - S .b) 0)
+  zero-served : UnusedZero S (after .control)
   zero-served = rw new (unused .set-up-zero S before zero)
 
 pub unused-served : UnusedServed
