@@ -1,7 +1,7 @@
 -- Document 02, Ask 5: cases of banks.
 -- Assumes nothing.
 use Prim.Native.Nat.{ℕ}
-use mathlib.Core.List.{List, [], _∷_, _++_}
+use mathlib.Core.List.{List, [], _∷_}
 use lib.ListN.{replicate}
 use Rattle.geometry.specs.declared.Settings.{Settings}
 use Rattle.computed.specs.Marked.{sessionLines}

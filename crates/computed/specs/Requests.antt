@@ -1,8 +1,7 @@
 -- Document 02: cases of Asks 1, 2 and 4; and what 01's tally makes of 01's session.
 -- Assumes nothing.
 use Prim.Native.Nat.{ℕ}
-use mathlib.Core.List.{List, [], _∷_, _++_}
-use lib.ListN.{replicate}
+use mathlib.Core.List.{List, [], _∷_}
 use Rattle.computed.specs.Case.{Lent, Case, trace, estimates, tallies, reads, settingsOf, lentOf}
 
 -- document 02, Ask 1: 'A file of no bytes, or of blanks and newlines alone .. shall .. print nothing. A file with a first count

@@ -11,12 +11,11 @@ use Rattle.engine.specs.State.{State}
 use Rattle.engine.specs.Ladder as ladders
 use Rattle.engine.specs.Calls as calls
 use Rattle.figures.specs.Outcome.{outcomeOf}
-use Rattle.figures.specs.Promises.{SetUpPromise}
 use Rattle.history.specs.Run as run
 use Rattle.history.specs.Tight.{Part, callsOf, Witness, AllReached}
 use Rattle.history.proofs.Tight.{tight}
-use Rattle.served.specs.Transcript.{inspectNumber, read, write, look, Exchange, rank, tick, Promised, Logged, whole, Transcript, answerOf, seen, seenOf}
-use Rattle.served.specs.Reached.{ListsServed, Realized, WitnessServed, TightServed}
+use Rattle.served.specs.Transcript.{inspectNumber, read, write, look, Exchange, rank, tick, Promised, whole, answerOf, seen, seenOf}
+use Rattle.served.specs.Reached.{ListsServed, WitnessServed, TightServed}
 
 -- an exchange on the memory σ
 pub record Served (S : Settings) (σ : State) (c : run.Call) : Type 0 where

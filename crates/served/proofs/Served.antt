@@ -1,7 +1,7 @@
 -- A transcript is a chain of `history`, so what is proved of chains holds of it. Assumes nothing.
 use Prim.Native.Nat.{ℕ}
 use mathlib.Core.Path.{_≡_, refl, sym, ap, _∙_, subst}
-use mathlib.Core.Logic.{_≢_, inl}
+use mathlib.Core.Logic.{inl}
 use mathlib.Core.Bool.{false}
 use mathlib.Core.List.{List, [], _∷_, map}
 use native.Mathlib.Nat.{suc-ne-zero}
@@ -18,7 +18,7 @@ use Rattle.figures.specs.Promises.{SetUpPromise, TickPromise}
 use Rattle.figures.specs.Span.{spanOf}
 use Rattle.figures.proofs.Spans.{span-part, span-none}
 use Rattle.history.specs.Run as run
-use Rattle.basics.specs.Lists.{Each, OneOf}
+use Rattle.basics.specs.Lists.{Each}
 use Rattle.history.specs.Chain.{Idle, misfit as lent-misfit, looks, Chain, end, call, idle, Claim, OfChains, CallClaim, AnyCall}
 use Rattle.history.specs.Demand2.{InverseHolds, BytesHold, Usual}
 use Rattle.history.specs.AfterTick.{GoodAccess}

@@ -13,7 +13,7 @@ use Rattle.history.specs.Run as run
 use Rattle.history.proofs.Unused.{unused}
 use Rattle.served.specs.Transcript.{Exchange, Promised, seen}
 use Rattle.served.specs.Unused.{UnusedServed}
-use Rattle.served.proofs.Exchange.{Tells, exchange-cases, stepOf, told, heard}
+use Rattle.served.proofs.Exchange.{exchange-cases, stepOf, told, heard}
 
 -- ---- a call
 
