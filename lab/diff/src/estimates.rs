@@ -1,6 +1,6 @@
-//! What an estimate tells of its place (document 02, Ask 2), judged from outside: the judge is fed the calls, their
-//! answers and `spill` of the place's bank as the call left it. A place whose estimate has come to A is left, and no row
-//! moves to it again in the epoch (Ask 4) or is sent home to it; so no estimate is above A.
+//! What follows from an estimate for its place (document 02, Ask 2), judged from outside: the judge is fed the calls, their
+//! answers and `spill` of the place's bank as the call left it. A place whose estimate has reached A is left, and no row
+//! moves to it again in the epoch (Ask 4) or is sent home to it; so no estimate is above A, and a row moves at A alone.
 
 use model::memory::{Answer, Call, Control, Settings, NONE};
 
@@ -49,7 +49,7 @@ impl Estimates {
         } else {
             self.latest[place] = estimate;
             self.since[place] = 0;
-            moved == estimate.is_multiple_of(s.a)
+            moved == (estimate == s.a)
                 && (least..=s.a).contains(&estimate)
                 && (accesses..=accesses + spill).contains(&estimate)
         };
