@@ -2,6 +2,8 @@
 // control record comes by value, and what an access changes in it is given back as numbers: the ring, and one bank with its
 // numbers; `record_after` puts them into the record. Both pass the refusals by the same calls; what comes before the bytes
 // as one function of both was slower.
+#![tactic(auto)]
+
 ghost use Rattle.std.specs.Prelude.{◌≡◌, ◌<◌};
 ghost use Rattle.banks.specs.Banks.{most_banks, with_bank};
 ghost use Rattle.geometry.specs.Entry.{empty};
@@ -18,7 +20,7 @@ use geometry::{Control, Ring, Settings, VisibleRow};
 use verdict::{Found, Verdict};
 
 // The answer of an access in numbers, and what it leaves in the control record: the ring, and a bank's numbers.
-#[derive(Drop)]
+#[derive(Clone, Copy)]
 pub struct Answered {
     pub outcome: Outcome,
     pub ring: Ring,

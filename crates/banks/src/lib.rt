@@ -1,12 +1,14 @@
 // The banks of a rank: which bank a physical row belongs to, which entries of the tracker's tables are a bank's, and a
 // bank's numbers in the control record (document 02, Ask 5).
+#![tactic(auto)]
+
 ghost use Rattle.std.specs.Prelude.{◌≡◌, ◌≤◌, ◌<◌, get_or, set};
 ghost use Rattle.banks.specs.Banks.{most_banks, bank_of, bank_with, with_bank};
 
 use geometry::{Control, PhysicalRow, Ring, Settings};
 
 // A bank, with its numbers in the control record.
-#[derive(Drop)]
+#[derive(Clone, Copy)]
 pub struct Bank {
     // which one it is
     pub index: usize,

@@ -13,7 +13,7 @@ use sizing::{RefreshTimes, SizeTimes};
 
 // What a call answers, in numbers: number, place, slot moved to, row sent home (65535 for none), estimate, and the
 // length of inspect's part. And the memory after it.
-#[derive(Drop)]
+#[derive(Clone, Copy)]
 pub struct Step {
     pub answer: [u64; 6],
     pub memory: Memory,

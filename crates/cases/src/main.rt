@@ -1,5 +1,7 @@
 // Runs a script of cases on the engine, and prints what differs, by the line of the script. The script that stands
 // beside this program, `stdin`, has the cases of documents 01 and 02, and says how a script is written.
+#![tactic(auto)]
+
 ghost use Rattle.std.specs.Prelude.{◌≡◌, length};
 
 use libc::STDIN_FILENO;
@@ -25,7 +27,7 @@ fn text_buffer() -> [u8; 262145]
 }
 
 // The script as far as it is read, and the line that is read.
-#[derive(Drop)]
+#[derive(Clone, Copy)]
 struct Reading {
     case: Case,
     scan: Scan,

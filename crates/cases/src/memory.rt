@@ -26,7 +26,7 @@ pub const ACTS: usize = 8;
 
 pub const BYTES: usize = 9;
 
-#[derive(Drop)]
+#[derive(Clone, Copy)]
 pub struct Memory {
     pub settings: Settings,
     pub control: Control,

@@ -6,7 +6,7 @@ use geometry::Settings;
 use libc::STDOUT_FILENO;
 
 // What the script has brought about so far.
-#[derive(Drop)]
+#[derive(Clone, Copy)]
 pub struct Case {
     // the memory, and the same before the last call
     pub now: Memory,

@@ -51,7 +51,7 @@ const BLANKS: u64 = 2314885530818453536;
 const HYPHEN: u64 = 2314885530818453549;
 
 // The item that is read: its value as a number, its last eight bytes, and whether each of its bytes is a digit.
-#[derive(Drop)]
+#[derive(Clone, Copy)]
 struct Item {
     value: u64,
     packed: u64,
@@ -67,7 +67,7 @@ impl Item {
 }
 
 // How far a line is read.
-#[derive(Drop)]
+#[derive(Clone, Copy)]
 pub struct Scan {
     pub verb: usize,
     pub word: usize,

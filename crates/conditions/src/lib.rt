@@ -1,4 +1,6 @@
 // The conditions of refusals 1, 2 and 3. Every function answers for any argument.
+#![tactic(auto)]
+
 ghost use Rattle.std.specs.Prelude.{◌≡◌};
 ghost use Rattle.conditions.specs.Conditions.{ranges_hold, limit_holds, store_holds, lengths_hold};
 

@@ -1,6 +1,8 @@
 // The scans of the tracker's counts: the lowest count that is a value, and whether one is above a limit.
 // A search examines blocks of 64 entries without branching, so that it is done with vector instructions; from the first
 // block that has a hit it examines blocks of 16, and from the first of those with a hit it searches one by one.
+#![tactic(auto)]
+
 ghost use Rattle.std.specs.Prelude.{◌≡◌, ◌+◌, ◌≤◌, ltb, eqb, length, take, drop};
 ghost use Rattle.scan.specs.Scan.{index_of, some, Skipped};
 

@@ -2,6 +2,8 @@
 // `Ladder` (the refusals) and `Calls` (the five calls). The code that meets it: crates `ladder`, `verdict`, `seek`,
 // `settle`, `epoch`, `look` and `access`. The definitions answer an access by the enums here, the code by their numbers
 // (crate `figures`).
+#![tactic(auto)]
+
 use geometry::{PhysicalRow, Slot, VisibleRow};
 
 // The refusals, by the rows of document 01's table 'Where each call can stop'.
@@ -24,7 +26,7 @@ pub const EPOCH: u32 = 8;
 pub const QUARANTINE: u32 = 9;
 
 // What is asked of a row.
-#[derive(Drop)]
+#[derive(Clone, Copy)]
 pub struct Asked {
     // the row, whatever its number
     pub row: u32,
@@ -33,7 +35,7 @@ pub struct Asked {
 }
 
 // Where an accepted access left its row.
-#[derive(Drop)]
+#[derive(Clone, Copy)]
 pub enum Move {
     // where it was
     Stayed,
@@ -44,7 +46,7 @@ pub enum Move {
 }
 
 // The answer of a read or a write.
-#[derive(Drop)]
+#[derive(Clone, Copy)]
 pub enum Reply {
     // the refusal's number
     Refused(u32),

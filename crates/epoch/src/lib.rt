@@ -1,5 +1,7 @@
 // What begins an epoch: set-up and tick, with the control record by value. Each answers for any settings and lent memory;
 // where it refuses, nothing lent is written.
+#![tactic(auto)]
+
 ghost use Rattle.std.specs.Prelude.{◌≡◌, ◌≤◌};
 ghost use Rattle.banks.specs.Banks.{most_banks};
 ghost use Rattle.engine.specs.State.{entering, leaving};
@@ -8,7 +10,7 @@ ghost use Rattle.engine.specs.Calls.{noted_of, set_up, zero_below, tick};
 use geometry::{Control, Settings};
 
 // The number of a call, and the control record after it.
-#[derive(Drop)]
+#[derive(Clone, Copy)]
 pub struct Numbered {
     pub number: u32,
     pub control: Control,

@@ -1,4 +1,6 @@
 // The engine's answers in numbers, for callers that cannot take an enum or a slice: what the C functions answer.
+#![tactic(auto)]
+
 ghost use Rattle.std.specs.Prelude.{◌≡◌};
 ghost use Rattle.figures.specs.Sum.{sum_of};
 
@@ -6,7 +8,7 @@ use sizing::Figure;
 
 // The answer of a read or a write, in numbers.
 #[repr(C)]
-#[derive(Drop)]
+#[derive(Clone, Copy)]
 pub struct Outcome {
     // the refusal's number, 0 where the access was accepted
     pub number: u32,
@@ -22,7 +24,7 @@ pub struct Outcome {
 
 // Where inspect's part lies in the store, for callers that cannot take a slice.
 #[repr(C)]
-#[derive(Drop)]
+#[derive(Clone, Copy)]
 pub struct Span {
     pub start: usize,
     pub length: usize,
@@ -30,7 +32,7 @@ pub struct Span {
 
 // The answer of a sizing sum, in numbers.
 #[repr(C)]
-#[derive(Drop)]
+#[derive(Clone, Copy)]
 pub struct Sum {
     // 1 where an argument is outside its range, else 0
     pub number: u32,

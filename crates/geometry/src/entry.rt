@@ -11,7 +11,7 @@ use crate::{Settings, numbering};
 pub const EMPTY: u16 = 65535;
 
 // An entry of the forward table: the slot that a visible row sits in, or empty.
-#[derive(Drop)]
+#[derive(Clone, Copy)]
 pub struct ForwardEntry(pub u16);
 
 impl ForwardEntry {
@@ -39,7 +39,7 @@ impl ForwardEntry {
 }
 
 // An entry of the reverse table: the visible row that a slot holds, or empty.
-#[derive(Drop)]
+#[derive(Clone, Copy)]
 pub struct ReverseEntry(pub u16);
 
 impl ReverseEntry {

@@ -1,5 +1,7 @@
 // The geometry of one rank: settings, control record and lengths (here), the three numberings (`numbering`), and the entries
 // of the pointer tables (`entry`). Every function answers for any argument.
+#![tactic(auto)]
+
 ghost use Rattle.std.specs.Prelude.{◌≡◌};
 ghost use Rattle.geometry.specs.Lent.{lengths_in};
 
@@ -11,7 +13,7 @@ mod numbering;
 
 // The settings, by the letters of document 01.
 #[repr(C)]
-#[derive(Drop)]
+#[derive(Clone, Copy)]
 pub struct Settings {
     // visible rows
     pub n: u32,
@@ -31,7 +33,7 @@ pub struct Settings {
 
 // The control record. Its places for banks from B on are 0 at set-up, and not looked at or changed afterwards.
 #[repr(C)]
-#[derive(Drop)]
+#[derive(Clone, Copy)]
 pub struct Control {
     // next slot
     pub head: u32,
@@ -52,7 +54,7 @@ pub const NEW: Control = Control {
 };
 
 // Where the quarantine stands.
-#[derive(Drop)]
+#[derive(Clone, Copy)]
 pub struct Ring {
     // next slot
     pub head: u32,
@@ -61,7 +63,7 @@ pub struct Ring {
 }
 
 // The lengths of what the caller lends, in elements.
-#[derive(Drop)]
+#[derive(Clone, Copy)]
 pub struct Lengths {
     pub store: usize,
     pub forward: usize,

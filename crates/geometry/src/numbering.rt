@@ -5,15 +5,15 @@ ghost use Rattle.geometry.specs.Numbering.{home_of, slot_row_of};
 use crate::Settings;
 
 // A row as the guest numbers it, 0 to N - 1.
-#[derive(Drop)]
+#[derive(Clone, Copy)]
 pub struct VisibleRow(pub u16);
 
 // A quarantine slot, 0 to Q - 1.
-#[derive(Drop)]
+#[derive(Clone, Copy)]
 pub struct Slot(pub u16);
 
 // A row of the memory itself, 0 to N + Q - 1. 64 bits hold N + s for every N and s.
-#[derive(Drop)]
+#[derive(Clone, Copy)]
 pub struct PhysicalRow(pub u64);
 
 // The home of visible row r is physical row r.

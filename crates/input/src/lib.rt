@@ -1,18 +1,20 @@
 // Reads all that a file descriptor gives, and distinguishes a read that fails from the end of the input, which
 // `io::read_full` does not. No contract can say what a read answers, nor which bytes come from outside; what follows
 // from an answer is `next_of`.
+#![tactic(auto)]
+
 ghost use Rattle.std.specs.Prelude.{◌≡◌, ◌≤◌, length};
 ghost use Rattle.input.specs.Input.{next_of, bytes_read};
 
 // What reading gave: a read failed, or so many bytes stand at the start of the lent buffer.
-#[derive(Drop)]
+#[derive(Clone, Copy)]
 pub enum Input {
     Failed,
     Read(usize),
 }
 
 // What follows a read: reading is over, or so many bytes more stand in the buffer.
-#[derive(Drop)]
+#[derive(Clone, Copy)]
 enum Next {
     Over(Input),
     More(usize),

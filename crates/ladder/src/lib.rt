@@ -1,5 +1,7 @@
 // The refusals that come before step 2: 1 to 7, where 7 is that of the row's pointers, in the order of document 01. Nothing
 // lent is written here.
+#![tactic(auto)]
+
 ghost use Rattle.std.specs.Prelude.{◌≡◌, not, ◌*◌, ◌≤◌, ◌<◌, length, get_or};
 ghost use Rattle.geometry.specs.Entry.{empty};
 ghost use Rattle.banks.specs.Banks.{most_banks};

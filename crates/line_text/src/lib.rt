@@ -1,4 +1,6 @@
 // The lines that a trace prints (document 01, 'Trace program'): from a line to bytes.
+#![tactic(auto)]
+
 ghost use Rattle.std.specs.Prelude.{◌+◌, ◌≤◌, length};
 ghost use Rattle.page.specs.Put.{Put};
 ghost use Rattle.line_text.specs.LineText.{figure_bytes, field, line_bytes};

@@ -1,4 +1,6 @@
 // The lines that a trace prints (document 01, 'Trace program'): from an answer to a line.
+#![tactic(auto)]
+
 ghost use Rattle.std.specs.Prelude.{◌≡◌};
 ghost use Rattle.lines.specs.Lines.{figure_of, line_of_access};
 ghost use Rattle.lines.specs.Lines.{bare as Lines·bare};
@@ -9,14 +11,14 @@ use figures::Outcome;
 const NONE: u32 = 65535;
 
 // A figure of a line.
-#[derive(Drop)]
+#[derive(Clone, Copy)]
 pub enum Figure {
     Dash,
     Number(u64),
 }
 
 // What a line has after the step.
-#[derive(Drop)]
+#[derive(Clone, Copy)]
 pub struct Line {
     // the refusal's number, or 0
     pub number: u32,

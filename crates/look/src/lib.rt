@@ -1,5 +1,7 @@
 // The calls that only look at a row, with the control record by value: inspect. Each answers for any settings, row and lent
 // memory, and writes nothing.
+#![tactic(auto)]
+
 ghost use Rattle.std.specs.Prelude.{◌≡◌, ◌<◌, get_or};
 ghost use Rattle.geometry.specs.Numbering.{physical};
 ghost use Rattle.geometry.specs.Entry.{empty};

@@ -1,4 +1,6 @@
 // The decimal numbers of a text (document 01, 'Trace program'). Every public function answers for any text.
+#![tactic(auto)]
+
 ghost use Rattle.std.specs.Prelude.{◌≡◌, ◌≤◌, length};
 ghost use Rattle.number_text.specs.Numbers.{blank, numbers_within, listed, counted};
 
@@ -7,7 +9,7 @@ use scanner::Scan;
 mod scanner;
 
 // What a text of decimal numbers is: unreadable, or so many numbers, which stand at the start of the lent list.
-#[derive(Drop)]
+#[derive(Clone, Copy)]
 pub enum Numbers {
     Unreadable,
     Count(usize),

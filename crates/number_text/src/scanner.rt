@@ -4,7 +4,7 @@ ghost use Rattle.number_text.specs.Numbers.{is_digit, is_gap, appended};
 ghost use Rattle.number_text.specs.Scanner.{pending, Past};
 
 // How far a text is read. The numbers that have ended stand in the lent list.
-#[derive(Drop)]
+#[derive(Clone, Copy)]
 pub struct Scan {
     // how many numbers have ended
     pub count: usize,

@@ -1,4 +1,6 @@
 // Printing into a page that is lent: bytes and decimal numbers go after those that stand there.
+#![tactic(auto)]
+
 ghost use Rattle.std.specs.Prelude.{◌≡◌, ◌+◌, ◌≤◌, length, drop};
 ghost use Rattle.page.specs.Decimal.{decimal};
 ghost use Rattle.page.specs.Put.{Put};

@@ -3,6 +3,8 @@
 // What each promises is one definition of crate `figures` (specs/Promises.antt); the theorem about them (crate `served`)
 // supposes these and nothing else. Rattle code may hold the record by value and call the crates `epoch`, `look` and
 // `access` instead. The two sizing sums, which need no record, stand in `sums`.
+#![tactic(auto)]
+
 ghost use Rattle.engine.specs.State.{entering, leaving};
 ghost use Rattle.figures.specs.Promises.{SetUpPromise, ReadPromise, WritePromise, TickPromise};
 ghost use Rattle.figures.specs.Promises.{InspectNumberPromise, InspectSpanPromise, InspectPartPromise};

@@ -1,5 +1,7 @@
 // A trace file replayed on the engine: from the file's bytes to the bytes printed (document 01, 'Trace program'; document
 // 02, Asks 1 and 5). The memory on which it is played is `new_memory`.
+#![tactic(auto)]
+
 ghost use Rattle.std.specs.Prelude.{◌≡◌, ◌+◌, ◌*◌, ◌≤◌, length, take};
 ghost use Rattle.trace_file.specs.Form.{most_numbers, recorded, StepsWithin};
 ghost use Rattle.trace_steps.specs.Steps.{line_room};

@@ -1,5 +1,7 @@
 // The bytes of rows within the store: reading a row, writing into one, copying one to another.
 // Rows are of w bytes; physical row p starts at byte p × w.
+#![tactic(auto)]
+
 ghost use Rattle.std.specs.Prelude.{◌≡◌, ◌≢◌, ◌+◌, ◌*◌, ◌≤◌, length};
 ghost use Rattle.row_layout.specs.Bytes.{row_bytes, written, copied};
 

@@ -3,6 +3,8 @@
 // For each of the first 16 slots the tracker of the slot's bank is searched (`search`). Where all of them are skipped, the
 // worn slots are marked in one pass over the trackers (`marking`): an access that is refused for want of a slot, again and
 // again, would else search a tracker for each slot that is left.
+#![tactic(auto)]
+
 ghost use Rattle.std.specs.Prelude.{◌≡◌, cond, ◌+◌, ◌-◌, ◌%◌, ◌<◌, ◌≤◌, ltb};
 ghost use Rattle.engine.specs.Round.{skipped_of};
 ghost use Rattle.seek.specs.Seeking.{skips_before, Seekable};

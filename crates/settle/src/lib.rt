@@ -1,4 +1,6 @@
 // What a move writes (step 4): the copies, the pointer tables, `head` and `passed`.
+#![tactic(auto)]
+
 ghost use Rattle.std.specs.Prelude.{◌≡◌, cond, ◌⊎◌, ◌<◌, length, set};
 ghost use Rattle.geometry.specs.Numbering.{home_row, slot_row};
 ghost use Rattle.geometry.specs.Entry.{empty, is_empty};

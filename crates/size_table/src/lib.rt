@@ -1,16 +1,18 @@
 // Document 01, 'Sizing': the table of six quarantine sizes, each with its threshold.
+#![tactic(auto)]
+
 ghost use Rattle.std.specs.Prelude.{◌≡◌};
 ghost use Rattle.size_table.specs.Table.{listed_at};
 
 // A threshold and the least quarantine size for it.
-#[derive(Drop)]
+#[derive(Clone, Copy)]
 pub struct SizePair {
     pub threshold: u64,
     pub size: u64,
 }
 
 // What stands at an index of the table.
-#[derive(Drop)]
+#[derive(Clone, Copy)]
 pub enum Listed {
     Pair(SizePair),
     PastEnd,

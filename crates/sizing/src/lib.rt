@@ -1,11 +1,13 @@
 // Document 01, 'Sizing': the least quarantine size and the most activations in a refresh window. Times are in whole
 // nanoseconds. Every function answers for any argument.
+#![tactic(auto)]
+
 ghost use Rattle.std.specs.Prelude.{◌≡◌};
 ghost use Rattle.sizing.specs.Sums.{size_ranges_hold, least_size, activation_ranges_hold, most_activations};
 ghost use Rattle.sizing.specs.Sums.{sum_number, sum_value};
 
 // What the least quarantine size depends on.
-#[derive(Drop)]
+#[derive(Clone, Copy)]
 pub struct SizeTimes {
     // refresh window
     pub trefw: u64,
@@ -20,7 +22,7 @@ pub struct SizeTimes {
 }
 
 // What the most activations of a bank in a refresh window depend on.
-#[derive(Drop)]
+#[derive(Clone, Copy)]
 pub struct RefreshTimes {
     // refresh window
     pub trefw: u64,
@@ -33,7 +35,7 @@ pub struct RefreshTimes {
 }
 
 // The answer of a sum.
-#[derive(Drop)]
+#[derive(Clone, Copy)]
 pub enum Figure {
     // an argument is outside its range: number 1
     Refused,

@@ -1,5 +1,7 @@
 // Replays the trace file on standard input, and prints its lines on standard output (document 01, 'Trace program'; document
 // 02, Asks 1 and 5). A program has no exit status of its own: what cannot be read or written is said on standard error.
+#![tactic(auto)]
+
 ghost use Rattle.std.specs.Prelude.{◌≡◌, ◌≤◌, length, take};
 ghost use Rattle.input.specs.Input.{bytes_read};
 ghost use Rattle.replay.specs.Replay.{page_room};

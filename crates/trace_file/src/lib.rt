@@ -1,5 +1,7 @@
 // The form of a trace file (document 01, 'Trace program'; document 02, Ask 5): from its numbers to settings and steps. A file
 // without numbers is an empty trace (document 02, Ask 1). The public functions answer for any text.
+#![tactic(auto)]
+
 ghost use Rattle.std.specs.Prelude.{◌≡◌, ◌≤◌, length, take};
 ghost use Rattle.trace_file.specs.Form.{banks_in, settings_of, form_of, is_empty_trace};
 ghost use Rattle.trace_file.specs.Form.{recorded, form_within, trace_within};
@@ -8,7 +10,7 @@ use geometry::Settings;
 use number_text::Numbers;
 
 // What a trace file is: refused, or settings and so many steps, which stand in the lent list from index `first` on.
-#[derive(Drop)]
+#[derive(Clone, Copy)]
 pub enum Form {
     Refused,
     Trace {

@@ -1,4 +1,6 @@
 // The steps of a trace, run on the engine, each with its line (document 01, 'Trace program').
+#![tactic(auto)]
+
 ghost use Rattle.std.specs.Prelude.{◌≡◌, ◌*◌, ◌≤◌, length, take, replicate};
 ghost use Rattle.engine.specs.State.{entering, leaving, new_control};
 ghost use Rattle.trace_steps.specs.Steps.{widest, line_room, stepped_of, stepped, run_lines};
@@ -13,7 +15,7 @@ const TICK: u32 = 65535;
 const WIDEST: usize = 8192;
 
 // What a step shows: its line, and the control record after it.
-#[derive(Drop)]
+#[derive(Clone, Copy)]
 struct Stepped {
     line: Line,
     control: Control,

@@ -1,5 +1,7 @@
 // The tracker over lent tables: step 2 of an access, in the bank of its place, and the start of an epoch. The entry that step
 // 2 changes is found first, which writes nothing; then it is followed.
+#![tactic(auto)]
+
 ghost use Rattle.std.specs.Prelude.{◌≡◌, ◌<◌, ◌≤◌, length, get_or, replicate};
 ghost use Rattle.geometry.specs.Entry.{empty};
 ghost use Rattle.tracking.specs.Entry.{estimate_at, table_after, spill_after};
@@ -9,7 +11,7 @@ use banks::Bank;
 use geometry::PhysicalRow;
 
 // What step 2 changes in the tables.
-#[derive(Drop)]
+#[derive(Clone, Copy)]
 pub struct Update {
     // the entry; the end of the bank's entries where there is none
     pub entry: usize,

@@ -1,5 +1,7 @@
 // What is decided of an access that 1 to 7 let pass: 8, whether it moves its row (step 4), and then 9 and the destination's 7.
 // Nothing lent is written here.
+#![tactic(auto)]
+
 ghost use Rattle.std.specs.Prelude.{◌≡◌, ◌<◌, ◌≤◌, eqb};
 ghost use Rattle.geometry.specs.Numbering.{slot};
 ghost use Rattle.tracking.specs.Track.{is_due};
@@ -13,7 +15,7 @@ use geometry::{ForwardEntry, PhysicalRow, ReverseEntry, Ring, Settings, Slot, Vi
 use tracker::Update;
 
 // What an access found before the bytes.
-#[derive(Drop)]
+#[derive(Clone, Copy)]
 pub struct Found {
     pub row: VisibleRow,
     // the row's forward entry, and its place (step 1)
@@ -26,7 +28,7 @@ pub struct Found {
 }
 
 // What is decided of a row that is to be quarantined.
-#[derive(Drop)]
+#[derive(Clone, Copy)]
 pub struct Verdict {
     // the number with which the access is refused, 0 where it is accepted
     pub number: u32,

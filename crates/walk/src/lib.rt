@@ -1,1 +1,3 @@
 // No functions: the two lemmas by which an entry over a lent record is proved from its core (see proofs/).
+
+#![tactic(auto)]
