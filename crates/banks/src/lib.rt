@@ -19,6 +19,7 @@ pub struct Bank {
 }
 
 // Returns the bank of a physical row. With one bank, the usual case, there is no division.
+#[tactic(auto, unfolding(crate::specs::Banks::bank_of))]
 pub fn bank_of(s: Settings, row: PhysicalRow) -> usize
     requires { (1 ≤ s.b) × (row.0 < 65536) }
     ensures { result ≡ bank_of s row.0 }
@@ -56,6 +57,7 @@ fn with_number(numbers: [u32; 16], bank: usize, number: u32) -> [u32; 16]
 }
 
 // Returns the bank of a physical row, with its numbers.
+#[tactic(auto, unfolding(crate::specs::Banks::bank_of))]
 pub fn bank_at(s: Settings, control: Control, row: PhysicalRow) -> Bank
     requires { (1 ≤ s.b) × (s.b ≤ most_banks) × (row.0 < 65536) }
     ensures { result ≡ bank_with control (bank_of s row.0) }
