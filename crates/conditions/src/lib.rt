@@ -7,6 +7,7 @@ ghost use Rattle.conditions.specs.Conditions.{ranges_hold, limit_holds, store_ho
 use geometry::{Lengths, Settings};
 
 // Condition 1: each setting is in its range.
+#[tactic(auto, unfolding(crate::specs::Conditions::ranges_hold))]
 pub fn ranges_hold(s: Settings) -> bool
     ensures { result ≡ ranges_hold s }
 {
@@ -20,6 +21,7 @@ pub fn ranges_hold(s: Settings) -> bool
 }
 
 // Condition 2: L is less than A × (K + 1). The product of any two 32-bit numbers, and one more, fits 64 bits.
+#[tactic(auto, unfolding(crate::specs::Conditions::limit_holds))]
 pub fn limit_holds(s: Settings) -> bool
     ensures { result ≡ limit_holds s }
 {
@@ -27,6 +29,7 @@ pub fn limit_holds(s: Settings) -> bool
 }
 
 // The store has (N + Q) × W bytes. N × W and Q × W fit 64 bits each; their sum may not, so it is not formed.
+#[tactic(auto, unfolding(crate::specs::Conditions::store_holds))]
 pub fn store_holds(s: Settings, store: usize) -> bool
     ensures { result ≡ store_holds s store }
 {
@@ -39,6 +42,7 @@ pub fn store_holds(s: Settings, store: usize) -> bool
 }
 
 // Condition 3: each table, tracker part and store has exactly its length.
+#[tactic(auto, unfolding(crate::specs::Conditions::lengths_hold))]
 pub fn lengths_hold(s: Settings, lengths: Lengths) -> bool
     ensures { result ≡ lengths_hold s lengths }
 {
