@@ -7,16 +7,17 @@
 use Prim.Native.Nat.{ℕ}
 use mathlib.Core.List.{List, [], ◌∷◌}
 use seplogic.Ra.Ura.{Ura}
-use seplogic.Ra.TreeShare.{full_share}
+use base.Fraction.{full_share}
 use mir.Val.{Val, vptr}
 use base.Logic.{SProp}
 use base.Stored.{Gv}
-use base.Fml.{Fml, Lft, Share, GName, fsep, feq, flft, fobs, fauth, fbor, fobor, fshr_bor}
+use base.Fml.{Fml, Lft, Share, GName, fsep, feq, flft, fobs, fauth, fbor, fobor}
 use types.Logic.{Logic}
 use types.Kit.{Goal, Soaks, Seq, Step, step, Item, ‵, raw, ◌⊛◌, ◌$◌, move, drop, split, fsplit, fsplit3}
 use types.SemTy.{Body}
 use denote.RattleType.{RattleType}
-use denote.Memory.{mem, cell_at, part_at}
+use denote.Memory.{mem, cell_at, part_at, hidden_shr}
+use denote.Opens.{Shut}
 use denote.Laws.{Is, shows}
 use denote.Steps.{opens, closes, looks, owned, peeks}
 use denote.Struct.Declared.{row}
@@ -64,15 +65,14 @@ module _ {M : Type 1} {𝓤 : Ura M} {𝓛 : Logic 𝓤} {K : Type 0} {G : Goal 
           fsplit t $ fsplit3 t $ drop t $ move t (3 ∷ []) $ split t $ move t (2 ∷ 3 ∷ 0 ∷ []) $
           opens t z (R T) {h = h} b o (λ us. written t full_share us k)
 
-      pub looked : K → Soaks G → {g : Fml} → ((s : Share) → Is (R T) h (vals T h)
-          → Seq K 𝓛 (‵ (Cell T s (vals T h) b o) ∷ ‵ ((R T).own_val h (vals T h)) ∷ ‵ (fobor κ q (part_at (R T) s h b o))
-          ∷ ‵ (fshr_bor κ (λ s. part_at (R T) s h b o)) ∷ ‵ g ∷ raw Alive ∷ ‵ Rest ∷ Γ) G)
-          → Seq K 𝓛 (‵ (fsep (Points vs b o (fsep g (fshr_bor κ (λ s. part_at (R T) s h b o)))) Rest)
+      pub looked : K → Soaks G → ((s : Share) → Is (R T) h (vals T h)
+          → Seq K 𝓛 (‵ (Cell T s (vals T h) b o) ∷ ‵ ((R T).own_val h (vals T h)) ∷ Shut 𝓛 κ q (part_at (R T) s h b o)
+          ∷ ‵ (hidden_shr (R T) κ h b o) ∷ raw Alive ∷ ‵ Rest ∷ Γ) G)
+          → Seq K 𝓛 (‵ (fsep (Points vs b o (hidden_shr (R T) κ h b o)) Rest)
           ∷ (‵ (flft κ q) ⊛ raw Alive) ∷ Γ) G
       looked t z k =
-          fsplit t $ fsplit3 t $ drop t $ move t (3 ∷ []) $ split t $ move t (3 ∷ 0 ∷ 2 ∷ []) $
-          looks t z (R T) (Is (R T)) (shows 𝓛 (R T)) (vals T) (LL.tells T.X T.laws)
-          (LL.copy T.X T.copyable 𝓛) h b o (λ s us. written t s us (k s))
+          fsplit t $ fsplit t $ drop t $ move t (2 ∷ []) $ split t $ move t (2 ∷ 0 ∷ []) $
+          looks t z (R T) (LL.copied T.X T.copyable 𝓛).opens h b o (λ s us. written t s us (k s))
 
     pub shut : K → Soaks G → {γ : GName} {u v : Gv} → Is (R T) h (vals T h)
         → Step K 𝓛 (‵ (fobs γ (code T h)) ∷ ‵ (fbor κ (Lent T b o γ)) ∷ ‵ (flft κ q) ∷ Γ) G

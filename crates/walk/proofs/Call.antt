@@ -5,7 +5,7 @@
 use mathlib.Core.Path.{◌≡◌, refl, sym, ap, subst}
 use mathlib.Core.List.{List, [], ◌∷◌}
 use seplogic.Ra.Ura.{Ura}
-use mir.Syntax.{Name, place}
+use mir.Syntax.{Callee, place}
 use mir.Raw.{raw as raw_ty}
 use mir.Val.{Val}
 use base.Logic.{SProp, ent, guard, id⊢}
@@ -48,19 +48,19 @@ module _ {M : Type 1} {𝓤 : Ura M} (𝓛 : Logic 𝓤) (C : Calls 𝓤 𝓛.H)
 
   -- a share of the record's cell
   abbrev Cell : Share → Fml
-  Cell s = fat s (raw_ty (layout (shape F.T.X))) z.x.ptr.0 z.x.ptr.1 (w F z)
+  Cell s = fat s (raw_ty (layout (shape F.T.X))) z.x.ref_ptr.0 z.x.ref_ptr.1 (w F z)
 
-  pub to-call : Good → {s : Share} {f : Name} {q : Post 𝓤 H} {Γ : List (Item 𝓤)}
+  pub to-call : Good → {s : Share} {f : Callee} {q : Post 𝓤 H} {Γ : List (Item 𝓤)}
       → Step (Go {0}) 𝓛 (locals 𝓛 E (at_call F z) ∷ ‵ (Cell s) ∷ Γ) (runs C Λ E (calling F f) q)
       (locals 𝓛 E (at_entry F z) ∷ ‵ (Cell s) ∷ Γ) (runs C Λ E (code_of F f) q)
   to-call good =
-      let was = behind E ! 1 z.x.ptr.0 z.x.ptr.1 (at_entry F z) there.0 refl (stop !) in
+      let was = behind E ! 1 z.x.ref_ptr.0 z.x.ref_ptr.1 (at_entry F z) there.0 refl (stop !) in
       let lendable : Each (lent-tests F z (types_of E)) = apart (lent-tests F z (types_of E)) tested.1.0 in
       step (λ s. assigns ! (of_opd ! (load ! was (look_raw ! 1 refl))) (from ! (stop !))
       (sets ! E F.copied (w F z) (at_entry F z) (ok.copy z good.0) good.1) $
       relent E ! (lends F) (slices F z) (at_copy F z) lendable (ok.lent z) $ s)
 
-  module _ (kept : Keeps F) (Ensures : Clause F 𝓤 kept) (fm : FmC 𝓤 H 𝓛.laws C) (f : Name)
+  module _ (kept : Keeps F) (Ensures : Clause F 𝓤 kept) (fm : FmC 𝓤 H 𝓛.laws C) (f : Callee)
       (known : Triple 𝓤 (C f) (triple 𝓛 (core F 𝓤 kept Ensures))) (qs : Shares (n F)) where
     abbrev T : Terms 𝓤
     T = core F 𝓤 kept Ensures

@@ -14,7 +14,7 @@ use mathlib.Core.Path.{◌≡◌, sym, subst}
 use Prim.Native.Nat.{suc}
 use mathlib.Core.List.{[], ◌∷◌}
 use seplogic.Ra.Ura.{Ura}
-use mir.Syntax.{Name, Body, Fn}
+use mir.Syntax.{Callee, Body, Fn}
 use mir.Val.{Val}
 use base.Logic.{SProp, ent, sep, emp}
 use base.Fml.{flft}
@@ -42,7 +42,7 @@ module _ {M : Type 1} {𝓤 : Ura M} (𝓛 : Logic 𝓤) (F : Form) (kept : Keep
   -- from what the parameters' types own, the tokens, and the locals with the arguments, to the return
   open 𝓛 use {H}
 
-  abbrev Walk : Claim F 𝓤 kept → Calls 𝓤 H → Loops 𝓤 H → Name → Type 1
+  abbrev Walk : Claim F 𝓤 kept → Calls 𝓤 H → Loops 𝓤 H → Callee → Type 1
   Walk Ensured C Λ core =
       (κs : Lfts (suc (n F))) (qs : Shares (suc (n F))) (a : Denots (passed F κs)) (E : Env 𝓤 H) → Formed F (types_of E)
       → Sq 𝓛 (‵ (owns (passed F κs) a (spelt (passed F κs) (spelled F κs) a))
@@ -53,10 +53,10 @@ module _ {M : Type 1} {𝓤 : Ura M} (𝓛 : Logic 𝓤) (F : Form) (kept : Keep
   abbrev pub Walks : Type 2
   Walks =
       (Ensures : Clause F 𝓤 kept) (Ensured : Claim F 𝓤 kept) → Follows F 𝓤 kept Ensures Ensured
-      → (C : Calls 𝓤 H) (Λ : Loops 𝓤 H) → FmC 𝓤 H 𝓛.laws C → (core : Name)
+      → (C : Calls 𝓤 H) (Λ : Loops 𝓤 H) → FmC 𝓤 H 𝓛.laws C → (core : Callee)
       → Triple 𝓤 (C core) (triple 𝓛 (core-of F 𝓤 kept Ensures)) → Walk Ensured C Λ core
 
-  meets : (Ensured : Claim F 𝓤 kept) (C : Calls 𝓤 H) (Λ : Loops 𝓤 H) (core : Name) → Walk Ensured C Λ core
+  meets : (Ensured : Claim F 𝓤 kept) (C : Calls 𝓤 H) (Λ : Loops 𝓤 H) (core : Callee) → Walk Ensured C Λ core
       → (f : Fn) → f.body ≡ code_of F core → Formed F (declared f.locals)
       → Triple 𝓤 (WpFn 𝓤 H C Λ f) (triple 𝓛 (entry_of F 𝓤 kept Ensured))
   meets Ensured C Λ core walk f body formed y =
@@ -86,8 +86,8 @@ module _ {M : Type 1} {𝓤 : Ura M} (𝓛 : Logic 𝓤) (𝓜 : Model 𝓤 𝓛
       (Ensures : Clause F 𝓤 kept) (c : Routine)
       (met : Triple 𝓤 (𝓡.run c) (triple 𝓛 (core-of F 𝓤 kept Ensures)))
       (Ensured : Claim F 𝓤 kept) (follows : Follows F 𝓤 kept Ensures Ensured)
-      (ρ : Routines) (key : Name) (f : Fn) (closed : Closed 𝓤 H (tables 𝓤 H 𝓜 𝓡 ρ).C (tables 𝓤 H 𝓜 𝓡 ρ).Λ key f)
-      (core : Name) (cites : ρ core ≡ c) (body : f.body ≡ code_of F core) (formed : Formed F (declared f.locals))
+      (ρ : Routines) (key : Callee) (f : Fn) (closed : Closed 𝓤 H (tables 𝓤 H 𝓜 𝓡 ρ).C (tables 𝓤 H 𝓜 𝓡 ρ).Λ key f)
+      (core : Callee) (cites : ρ core ≡ c) (body : f.body ≡ code_of F core) (formed : Formed F (declared f.locals))
       → Triple 𝓤 (𝓡.run (ρ key)) (triple 𝓛 (entry_of F 𝓤 kept Ensured))
 
   pub entry : Walks 𝓛 F kept → Lemma

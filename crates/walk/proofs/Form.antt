@@ -14,7 +14,7 @@ use mathlib.Core.Option.{none, some}
 use mathlib.Core.List.{List, [], ◌∷◌}
 use seplogic.Ra.Ura.{Ura}
 use lib.Dec.{T}
-use mir.Syntax.{Name, Ty, deref, place, copy, rv_opd, Body, seq, assign, call}
+use mir.Syntax.{Callee, Ty, deref, place, copy, rv_opd, Body, seq, assign, call}
 use mir.Val.{Val, has_ty}
 use base.Fml.{Lft, Fml}
 use types.Logic.{Logic}
@@ -89,10 +89,10 @@ module _ (F : Form) where
   abbrev pub passes : List ℕ
   passes = F.copied ∷ passes_of (suc F.copied) F.ps
 
-  abbrev pub calling : Name → Body
+  abbrev pub calling : Callee → Body
   calling core = seq (call core (copies passes) (place F.answer [])) F.rest
 
-  abbrev pub code_of : Name → Body
+  abbrev pub code_of : Callee → Body
   code_of core =
       seq (assign (place F.copied []) (rv_opd (copy (place 1 (deref (layout (shape F.T.X)) ∷ [])))))
       (relends lends (calling core))

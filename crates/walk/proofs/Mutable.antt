@@ -7,21 +7,23 @@ use mathlib.Core.Path.{◌≡◌, refl, ap, ◌∙◌}
 use Prim.Native.Nat.{ℕ, suc}
 use mathlib.Core.List.{List, [], ◌∷◌}
 use seplogic.Ra.Ura.{Ura}
-use seplogic.Ra.TreeShare.{full_share}
+use base.Fraction.{full_share}
 use lib.Dec.{T as T'}
 use lib.ListN.{length}
 use mir.Syntax.{named, Ty, place, rv_opd, seq, assign, return}
 use mir.Raw.{raw as raw_ty}
 use mir.Val.{Val}
-use base.Fml.{fres, fat}
+use base.Fml.{Lft, Fml, fsep, fres, fbor, fat}
 use prog.Model.{Model}
 use types.Logic.{Logic}
 use types.Kit.{‵, ◌$◌, !, by, move, keep, use1, rewrite, join, fsplit, fjoin}
 use types.Run.{stop, from, of_opd, assigns}
+use types.SemTy.{Body}
+use denote.Memory.{mem}
 use contract.Running.{Running}
 use denote.Laws.{Is, Makes}
 use denote.RattleType.{RattleType}
-use denote.Ref.{MutBor, MutRef, at_last, mut_Tells, mut_Lawful}
+use denote.Ref.{MutBor, MutRef, as_bor, at_last, mut_Tells, mut_Lawful}
 use denote.Steps.{owned}
 use denote.Struct.Declared.{Declared, row, shape}
 use denote.Struct.Struct.{layout}
@@ -66,6 +68,10 @@ pub record Answer (T : Record) : Type 2 where
 abbrev scaled : List Param → ℕ
 scaled ps = free_from (suc (suc (suc (suc (length ps))))) ps
 
+-- the borrow, closed, which the contract hands back with the last value
+abbrev lent : (T : Record) → Lft → MutBor T.X.D → Fml
+lent T κ x = fbor κ (Body (mem (row T.X)) x.ref_ptr.0 x.ref_ptr.1 x.ghost_name)
+
 abbrev pub mutable : {T : Record} → Answer T → List Param → Form
 mutable {T} An ps =
     let answer : ℕ = suc (suc (length ps)) in
@@ -75,11 +81,11 @@ mutable {T} An ps =
       T = T;
       ps = ps;
       Ref = λ κ. MutRef (named 0) κ (row T.X);
-      seen = λ κ x. x;
+      seen = λ κ x. as_bor x;
       tells = λ κ. mut_Tells (named 0) κ (row T.X);
       lawful = λ κ 𝓛. mut_Lawful 𝓛 (named 0) κ (row T.X);
       Last = T.X.D;
-      left = λ κ x h. fres x.name ((row T.X).coded.code h);
+      left = λ κ x h. fsep (fres x.ghost_name ((row T.X).coded.code h)) (lent T κ x);
       Seen = MutBor T.X.D;
       see = λ κ x h. at_last x h;
       Y = λ κ. row An.Y;
@@ -109,8 +115,8 @@ module _ {M : Type 1} {𝓤 : Ura M} (𝓛 : Logic 𝓤) {T : Record} (An : Answ
       let x = a.0 in
       let z = args F κs a in
       let Te : Terms 𝓤 = entry_of F 𝓤 kept Ensured in
-      let b : ℕ = x.ptr.0 in
-      let o : ℕ = x.ptr.1 in
+      let b : ℕ = x.ref_ptr.0 in
+      let o : ℕ = x.ref_ptr.1 in
       let X : Ty = layout (shape T.X) in
       let Y : Ty = layout (shape An.Y) in
       let w : Val = LL.val T.X T.laws x.now in
@@ -146,9 +152,10 @@ module _ {M : Type 1} {𝓤 : Ura M} (𝓛 : Logic 𝓤) {T : Record} (An : Answ
       move ! (1 ∷ 6 ∷ 7 ∷ 8 ∷ []) $ shut T h b o ! tt is-h $ move ! (3 ∷ []) $
       ends ! E r (put 0 r cs) takes-r (content-put 0 r cs) (
       -- [the record's value; the borrow; its token; what the answer owns; the tokens; the last values; what is ensured]
-      use1 𝓛 (‵ (F.left κs.0 x h)) (𝓛.names.obs-res x.name ((row T.X).coded.code h)) $
+      use1 𝓛 (‵ (fres x.ghost_name ((row T.X).coded.code h))) (𝓛.names.obs-res x.ghost_name ((row T.X).coded.code h)) $
+      fjoin ! $
       owned ! An.R (Is An.R) (An.makes 𝓛) (An.gives d) (r ∷ []) is-r $
-      move ! (6 ∷ []) $ fsplit ! $ move ! (3 ∷ 1 ∷ []) $ fjoin ! $ keep ! (4 ∷ 6 ∷ 2 ∷ 0 ∷ 7 ∷ []) $ join ! $
+      move ! (5 ∷ []) $ fsplit ! $ move ! (3 ∷ 1 ∷ []) $ fjoin ! $ keep ! (3 ∷ 5 ∷ 2 ∷ 0 ∷ 6 ∷ []) $ join ! $
       by ! (gives 𝓛 Te κs qs a r (An.gives d) (h, ws.1))))))
 
 pub mut_entry : {M : Type 1} {𝓤 : Ura M} (𝓛 : Logic 𝓤) (𝓜 : Model 𝓤 𝓛.H) (𝓡 : Running 𝓤 𝓛.H 𝓜)

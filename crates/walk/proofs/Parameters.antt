@@ -67,7 +67,7 @@ slices_from k p n j [] at κs a = tt
 slices_from k p n j (value R l ∷ ps) at κs a = slices_from k (suc p) n j ps at κs a.1
 slices_from k p n j (shared R ∷ ps) at κs a = slices_from k (suc p) n (suc j) ps (λ κs. (at κs).1) κs a.1
 slices_from k p n j (lent R ∷ ps) at κs a = (
-  record { start = a.0.ptr; size = length a.0.now },
+  record { start = a.0.ref_ptr; size = length a.0.now },
   slices_from (suc (suc k)) (suc p) n (suc j) ps (λ κs. (at κs).1) κs a.1,
 )
 

@@ -15,9 +15,10 @@ use mathlib.Core.List.{List, [], ◌∷◌}
 use seplogic.Ra.Ura.{Ura}
 use lib.Dec.{T}
 use lib.ListN.{length, set, length-set}
-use mir.Syntax.{Ty, ty_int, ty_bool, ty_float, ty_ptr, ty_ref, ty_array, ty_unit, ty_struct, ty_enum, ty_named}
+use mir.Syntax.{Ty, ty_int, ty_bool, ty_float, ty_ptr, ty_ref, ty_array, ty_unit, ty_struct, ty_enum}
+use mir.Syntax.{ty_param, ty_const, ty_array_p, ty_named}
 use mir.Syntax.{Step as Hop, field, place, Opd as Operand, copy}
-use mir.Val.{Val, vunit, vbool, vint, vfloat, vptr, vstruct, Vals, vnil, vcons, of_list, all_n, has_ty}
+use mir.Val.{Val, vunit, vbool, vint, vfloat, vptr, vcode, vstruct, Vals, vnil, vcons, of_list, all_n, has_ty}
 use mir.Fields.{get_v, set_v, set_v-get_v, to_list}
 use mir.Raw.{raw as raw_ty}
 use base.Logic.{SProp, ent, sep, wand}
@@ -41,6 +42,7 @@ fields_of (vbool b) = vnil
 fields_of (vint w n) = vnil
 fields_of (vfloat f x) = vnil
 fields_of (vptr b o) = vnil
+fields_of (vcode t) = vnil
 fields_of (vstruct vs) = vs
 
 abbrev pub is_struct : Val → Bool
@@ -49,6 +51,7 @@ is_struct (vbool b) = false
 is_struct (vint w n) = false
 is_struct (vfloat f x) = false
 is_struct (vptr b o) = false
+is_struct (vcode t) = false
 is_struct (vstruct vs) = true
 
 is-struct : (v : Val) → T (is_struct v) → v ≡ vstruct (fields_of v)
@@ -57,6 +60,7 @@ is-struct (vbool b) s = absurd s
 is-struct (vint w n) s = absurd s
 is-struct (vfloat f x) s = absurd s
 is-struct (vptr b o) s = absurd s
+is-struct (vcode t) s = absurd s
 is-struct (vstruct vs) s = refl
 
 abbrev pub part : List ℕ → Val → Val
@@ -189,7 +193,10 @@ module _ {M : Type 1} {𝓤 : Ura M} {𝓛 : Logic 𝓤} {K : Type 0} where
     into t ty_unit vs k h p = absurd h
     into t (ty_struct ν τs) vs k h p = sub t k (is_found (field_at zero τs k) h) p
     into t (ty_enum ν τss) vs k h p = absurd h
-    into t (ty_named ν) vs k h p = absurd h
+    into t (ty_param j) vs k h p = absurd h
+    into t (ty_const n) vs k h p = absurd h
+    into t (ty_array_p τ j) vs k h p = absurd h
+    into t (ty_named ν τs) vs k h p = absurd h
 
     -- a cell within the cell that another is within
     within : K → {τ σ : Ty} {o p : ℕ} {v x : Val} {F : Val → Item 𝓤} (f : Val → Val) → f x ≡ v

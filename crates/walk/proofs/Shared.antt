@@ -66,14 +66,14 @@ module _ {M : Type 1} {𝓤 : Ura M} (𝓛 : Logic 𝓤) (T : Record) (ps : List
       let z = args F κs a in
       let h : T.X.D = a.0.now in
       let Te : Terms 𝓤 = entry_of F 𝓤 kept Ensured in
-      let b : ℕ = a.0.ptr.0 in
-      let o : ℕ = a.0.ptr.1 in
-      looked T h b o ! tt (λ s was. let good = spelled-fits 𝓛 (struct T.X T.laws) h was in move ! (7 ∷ 0 ∷ []) $
-      -- [the locals; a share of the record's cell; what it owns; the open borrow; the borrow; its value; the tokens]
+      let b : ℕ = a.0.ref_ptr.0 in
+      let o : ℕ = a.0.ref_ptr.1 in
+      looked T h b o ! tt (λ s was. let good = spelled-fits 𝓛 (struct T.X T.laws) h was in move ! (6 ∷ 0 ∷ []) $
+      -- [the locals; a share of the record's cell; what it owns; the way back; the borrow; the tokens; the others]
       to-call 𝓛 C Λ E ok z good $ move ! (1 ∷ 2 ∷ 3 ∷ []) $
       shuts ! tt (row T.X) s h (w F z ∷ []) b o $
       owned ! (row T.X) (Is (row T.X)) (LL.makes T.X T.plains 𝓛) h (w F z ∷ []) was $
-      move ! (5 ∷ 0 ∷ 6 ∷ 2 ∷ []) $
+      move ! (4 ∷ 0 ∷ 5 ∷ 2 ∷ []) $
       over-call 𝓛 C Λ E ok z kept Ensures fm core known qs.1 good (λ r ws. Te.Ensures κs a r (tt, ws.1)) (follows κs a)
       (λ r ws _ is.
       let v : Val = (L κs.1).val r in

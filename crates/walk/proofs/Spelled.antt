@@ -20,7 +20,7 @@ use denote.RattleType.{RattleType, Denots, Valss, flat, owns}
 use denote.Laws.{Typed, Is, Ises, Are, Tells, Tellss, Spells, valss, all_tell, Lawful, showss, owns_show}
 use denote.Memory.{lone}
 use denote.Plain.{UInt, uint_Tells, uint_Lawful}
-use denote.Ref.{Bor}
+use denote.Ref.{Bor, as_bor}
 use denote.Slice.{MutSlice, ShrSlice, slice_val, mut_slice_Tells, mut_slice_Lawful, shr_slice_Tells, shr_slice_Lawful}
 use denote.Struct.Declared.{Declared, row}
 use denote.Struct.Laws as LL
@@ -37,15 +37,15 @@ abbrev pub uint : (w : Width) → Spelled (UInt w)
 uint w = record { val = vint w; tells = uint_Tells w; lawful = λ 𝓛. uint_Lawful 𝓛 w }
 
 abbrev pub pointer : {X : Type 0} → Bor X → Val
-pointer x = vptr x.ptr.0 x.ptr.1
+pointer x = vptr x.ref_ptr.0 x.ref_ptr.1
 
 abbrev slice : {X : Type 0} → Bor (List X) → Val
-slice x = slice_val x.ptr (length x.now)
+slice x = slice_val x.ref_ptr (length x.now)
 
 module _ (ℓ : Lifetime) (κ : Lft) (R : RattleType) where
   abbrev pub mut_slice : Spelled (MutSlice ℓ κ R)
   mut_slice = record {
-    val = slice;
+    val = λ x. slice (as_bor x);
     tells = mut_slice_Tells ℓ κ R;
     lawful = λ 𝓛. mut_slice_Lawful 𝓛 ℓ κ R;
   }

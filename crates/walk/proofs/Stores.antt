@@ -16,11 +16,11 @@ use mathlib.Core.Bool.{Bool}
 use mathlib.Core.Option.{some}
 use mathlib.Core.List.{List, [], ◌∷◌}
 use seplogic.Ra.Ura.{Ura}
-use seplogic.Ra.TreeShare.{full_share}
+use base.Fraction.{full_share}
 use lib.Dec.{T, ltb, ltb→lt}
 use mir.Syntax.{Ty, ty_int, w64, ty_array, deref, place, int, copy, rv_opd, op2, mul, unsigned, offset, addr_of, Body, seq, assign}
 use mir.Raw.{raw as raw_ty}
-use mir.Val.{Val, vunit, vbool, vint, vfloat, vptr, vstruct, Fits as Number, has_ty}
+use mir.Val.{Val, vunit, vbool, vint, vfloat, vptr, vcode, vstruct, Fits as Number, has_ty}
 use mir.ValLaws.{eq_w→eq}
 use mir.Fields.{set_v}
 use base.Fml.{fat}
@@ -48,6 +48,7 @@ number (vbool b) = zero
 number (vint w n) = n
 number (vfloat f x) = zero
 number (vptr b o) = zero
+number (vcode t) = zero
 number (vstruct vs) = zero
 
 is_number : (v : Val) → T (has_ty (ty_int w64) v) → v ≡ vint w64 (number v)
@@ -56,6 +57,7 @@ is_number (vbool b) h = absurd h
 is_number (vint w n) h = ap (λ w. vint w n) (sym (eq_w→eq w64 w h))
 is_number (vfloat f x) h = absurd h
 is_number (vptr b o) h = absurd h
+is_number (vcode t) h = absurd h
 is_number (vstruct vs) h = absurd h
 
 -- ---- X, Y: the types of the record and the answer; answer: the answer's local; k: the local of an index, scaled; m: the
