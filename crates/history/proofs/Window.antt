@@ -44,12 +44,20 @@ feed-grows S τ e p =
 module _ (S : Settings) where
   -- ---- where the stretch begins
 
+  -- the first event of a chain, and what it leads to
+  begins : {σ σ' : State} {e : Event} {es : List Event} → Chain S σ (e ∷ es) σ'
+      → (between : State) × (Chain S between es σ' × ((zs : List Event) (ρ : State) → Chain S between zs ρ → Chain S σ (e ∷ zs) ρ))
+  begins (call {σ} c rest) = ((step S σ c).state, (rest, λ zs ρ k. call c k))
+  begins (idle {σ} z rest) = (σ, (rest, λ zs ρ k. idle z k))
+
   -- a list of events cut in two
   cut : (xs ys : List Event) {σ σ' : State} → Chain S σ (xs ++ ys) σ'
       → (between : State) × (Chain S σ xs between × Chain S between ys σ')
   cut [] ys {σ} chain = (σ, (end, chain))
-  cut (x ∷ xs) ys (call c rest) = let k = cut xs ys rest in (k.0, (call c k.1.0, k.1.1))
-  cut (x ∷ xs) ys (idle z rest) = let k = cut xs ys rest in (k.0, (idle z k.1.0, k.1.1))
+  cut (x ∷ xs) ys chain =
+      let b = begins chain in
+      let k = cut xs ys b.1.0 in
+      (k.0, (b.1.1 xs k.0 k.1.0, k.1.1))
 
   -- the invariant holds, and the epoch that runs began with no more openings than there are now
   abbrev Underway : State → Tally → Type 0

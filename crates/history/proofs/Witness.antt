@@ -37,6 +37,7 @@ calls-append (reads r n ∷ ps) qs =
 calls-append (ticks ∷ ps) qs = ap (λ (cs : List Call). tick ∷ cs) (calls-append ps qs)
 
 pub some_left : {A : Type 0} (P : A → Type 0) (xs ys : List A) → Some P xs → Some P (xs ++ ys)
+some_left P [] ys k = elim k [ ]
 some_left P (x ∷ xs) ys (inl k) = inl k
 some_left P (x ∷ xs) ys (inr k) = inr (some_left P xs ys k)
 
