@@ -1,15 +1,17 @@
-// Reads all that a file descriptor gives, and distinguishes a read that fails from the end of the input, which
-// `io::read_full` does not. No contract can say what a read answers, nor which bytes come from outside; what follows
-// from an answer is `next_of`.
+// Reads all that a reader gives, and distinguishes a read that fails from the end of the input. No contract can say what a
+// read of the system answers, nor which bytes come from outside; what follows from an answer is `next_of`.
 #![tactic(auto)]
 
 ghost use Rattle.std.specs.Prelude.{◌≡◌, ◌≤◌, length};
 ghost use Rattle.input.specs.Input.{next_of, bytes_read};
 
-// What reading gave: a read failed, or so many bytes stand at the start of the lent buffer.
+use std::io;
+use std::io::Read;
+
+// What reading gave: a read failed, and why, or so many bytes stand at the start of the lent buffer.
 #[derive(Clone, Copy)]
 pub enum Input {
-    Failed,
+    Failed(io::Error),
     Read(usize),
 }
 
@@ -21,25 +23,25 @@ enum Next {
 }
 
 // Tells what follows a read by what it answered, where `done` bytes came before it.
-fn judge(done: usize, answer: isize) -> Next
+#[tactic(auto, unfolding(crate::specs::Input::next_of))]
+fn judge(done: usize, answer: io::Result<usize>) -> Next
     ensures { result ≡ next_of done answer }
 {
-    if answer < 0 {
-        return Next::Over(Input::Failed);
+    match answer {
+        Err(error) => Next::Over(Input::Failed(error)),
+        Ok(0) => Next::Over(Input::Read(done)),
+        Ok(taken) => Next::More(taken),
     }
-    if answer == 0 {
-        return Next::Over(Input::Read(done));
-    }
-    Next::More(answer as usize)
 }
 
 // Reads until the buffer is full, the input ends or a read fails.
-pub fn read_all(fd: i32, buffer: &mut [u8]) -> Input
+#[tactic(auto, unfolding(crate::specs::Input::next_of))]
+pub fn read_all<R: Read>(reader: &mut R, buffer: &mut [u8]) -> Input
     ensures { bytes_read result ≤ length buffer.new }
 {
     let mut done: usize = 0;
     while done < buffer.len() {
-        let answer = libc::read(fd, &mut buffer[done..]);
+        let answer = reader.read(&mut buffer[done..]);
         let next = judge(done, answer);
         match next {
             Next::Over(input) => return input,
