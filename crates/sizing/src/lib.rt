@@ -62,6 +62,7 @@ pub fn value(f: Figure) -> u64
     }
 }
 
+#[tactic(auto, unfolding(crate::specs::Sums::size_ranges_hold))]
 fn size_ranges_hold(t: SizeTimes) -> bool
     ensures { result ≡ size_ranges_hold t }
 {
@@ -73,6 +74,7 @@ fn size_ranges_hold(t: SizeTimes) -> bool
 }
 
 // The least quarantine size, in slots: document 000, equation 3.
+#[tactic(auto, unfolding(crate::specs::Sums::least_size))]
 pub fn least_size(t: SizeTimes) -> Figure
     ensures { result ≡ least_size t }
 {
@@ -84,6 +86,7 @@ pub fn least_size(t: SizeTimes) -> Figure
     Figure::Value((over + (under - 1)) / under)
 }
 
+#[tactic(auto, unfolding(crate::specs::Sums::activation_ranges_hold))]
 fn activation_ranges_hold(t: RefreshTimes) -> bool
     ensures { result ≡ activation_ranges_hold t }
 {
@@ -94,6 +97,7 @@ fn activation_ranges_hold(t: RefreshTimes) -> bool
 }
 
 // The most activations of a bank in a refresh window, less the time that refreshes take.
+#[tactic(auto, unfolding(crate::specs::Sums::most_activations))]
 pub fn most_activations(t: RefreshTimes) -> Figure
     ensures { result ≡ most_activations t }
 {
