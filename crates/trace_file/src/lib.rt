@@ -27,6 +27,7 @@ const MOST_BYTES: usize = 65536;
 pub const MOST_NUMBERS: usize = 4105;
 
 // The banks of a trace: one where the first count is 6, and as many as the seventh setting says where it is 7.
+#[tactic(auto, unfolding(crate::specs::Form::banks_in))]
 fn banks_in(numbers: &[u32]) -> u32
     requires { 8 ≤ length numbers.now }
     ensures { result ≡ banks_in numbers.now }
@@ -101,6 +102,7 @@ pub fn parse(text: &[u8], numbers: &mut [u32]) -> Form
 }
 
 // Tells whether a file is an empty trace: within the length of a file, it has no bytes, or blanks and newlines alone.
+#[tactic(auto, unfolding(crate::specs::Form::is_empty_trace))]
 pub fn is_empty_trace(text: &[u8]) -> bool
     ensures { result ≡ is_empty_trace text.now }
 {

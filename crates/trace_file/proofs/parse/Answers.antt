@@ -1,0 +1,25 @@
+-- The form follows from what was read, and the list is long enough for every trace.
+use Rattle.std.proofs.Common.{arith, length}
+use Rattle.trace_file.proofs.Sections.{no_room, too_long, none_read, some_read}
+use Rattle.trace_file.proofs.parse.Goals as goal
+
+pub returns-then-numbers-lt-MOST_NUMBERS : goal.returns-then-numbers-lt-MOST_NUMBERS
+returns-then-numbers-lt-MOST_NUMBERS c =
+    let p = no_room c.args.text.now (length c.args.numbers.now) c.if-numbers-lt-MOST_NUMBERS.true in
+    record { form = p.0; said = p.1 }
+
+pub returns-then-text-gt-MOST_BYTES : goal.returns-then-text-gt-MOST_BYTES
+returns-then-text-gt-MOST_BYTES c =
+    let p = too_long c.args.text.now (length c.args.numbers.now) c.if-numbers-lt-MOST_NUMBERS.false c.if-text-gt-MOST_BYTES.true in
+    record { form = p.0; said = p.1 }
+
+pub returns-in-Unreadable : goal.returns-in-Unreadable
+returns-in-Unreadable c =
+    let p = none_read c.args.text.now (length c.args.numbers.now) c.if-numbers-lt-MOST_NUMBERS.false c.if-text-gt-MOST_BYTES.false c.in-Unreadable.ensures.numbers in
+    record { form = p.0; said = p.1 }
+
+pub returns-in-Count : goal.returns-in-Count
+returns-in-Count c =
+    let read = c.in-Count in
+    let p = some_read c.args.text.now (length c.args.numbers.now) c.if-numbers-lt-MOST_NUMBERS.false c.if-text-gt-MOST_BYTES.false c.read_numbers-found.new.list read.count (omega (arith, read.ensures.within)) read.ensures.numbers c.sections_of.ensures in
+    record { form = p.0; said = p.1 }
