@@ -8,6 +8,7 @@ ghost use Rattle.row_layout.specs.Bytes.{row_bytes, written, copied};
 use geometry::PhysicalRow;
 
 // The part of the store that is a row. It lies where the row begins; an address is a block of memory and an offset in it.
+#[tactic(auto, unfolding(row_layout::specs::Bytes::row_bytes))]
 pub fn row_part<'a>(store: &'a [u8], w: usize, place: PhysicalRow) -> &'a [u8]
     requires { place.0 * w + w ≤ length store.now }
     ensures bytes { result.now ≡ row_bytes w store.now place.0 }
