@@ -47,6 +47,7 @@ pub const SIZES: [SizePair; 6] = [
 ];
 
 // The pair at an index of the table.
+#[tactic(auto, unfolding(crate::specs::Table::listed_at))]
 pub fn size_at(i: usize) -> Listed
     ensures { result ≡ listed_at i }
 {
