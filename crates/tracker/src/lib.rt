@@ -35,6 +35,7 @@ pub fn find(place: PhysicalRow, k: usize, bank: Bank, rows: &[u16], counts: &[u3
 }
 
 // Returns the estimate of step 2 with the entry that it changes, 0 for none. to: the end of the bank's entries.
+#[tactic(auto, unfolding(tracking::specs::Entry::estimate_at))]
 fn estimate(entry: usize, to: usize, counts: &[u32]) -> u32
     requires { (to ≤ length counts.now) × (entry < to → get_or counts.now entry 0 < 4294967295) }
     ensures { result ≡ estimate_at entry to counts.now }
@@ -57,6 +58,7 @@ pub fn update_of(entry: usize, k: usize, bank: Bank, counts: &[u32]) -> Update
 }
 
 // Returns the bank's `spill` after step 2.
+#[tactic(auto, unfolding(tracking::specs::Entry::spill_after))]
 pub fn spill_after(estimate: u32, spill: u32) -> u32
     requires { spill < 4294967295 }
     ensures { result ≡ spill_after estimate spill }
@@ -68,6 +70,7 @@ pub fn spill_after(estimate: u32, spill: u32) -> u32
 }
 
 // Follows step 2 in the tables.
+#[tactic(auto, unfolding(tracking::specs::Entry::table_after))]
 pub fn follow(u: Update, place: PhysicalRow, rows: &mut [u16], counts: &mut [u32])
     requires { Followable u place.0 rows.old counts.old }
     ensures rows { rows.new ≡ table_after u.entry u.estimate place.0 rows.old }
