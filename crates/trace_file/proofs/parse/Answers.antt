@@ -1,5 +1,5 @@
 -- The form follows from what was read, and the list is long enough for every trace.
-use Rattle.std.proofs.Common.{arith, length}
+use Rattle.std.proofs.Common.{arith, length, ◌≤◌}
 use Rattle.trace_file.proofs.Sections.{no_room, too_long, none_read, some_read}
 use Rattle.trace_file.proofs.parse.Goals as goal
 
@@ -10,16 +10,26 @@ returns-then-numbers-lt-MOST_NUMBERS c =
 
 pub returns-then-text-gt-MOST_BYTES : goal.returns-then-text-gt-MOST_BYTES
 returns-then-text-gt-MOST_BYTES c =
-    let p = too_long c.args.text.now (length c.args.numbers.now) c.if-numbers-lt-MOST_NUMBERS.false c.if-text-gt-MOST_BYTES.true in
+    let a = c.args in
+    let wide = c.if-numbers-lt-MOST_NUMBERS.false in
+    let p = too_long a.text.now (length a.numbers.now) wide c.if-text-gt-MOST_BYTES.true in
     record { form = p.0; said = p.1 }
 
 pub returns-in-Unreadable : goal.returns-in-Unreadable
 returns-in-Unreadable c =
-    let p = none_read c.args.text.now (length c.args.numbers.now) c.if-numbers-lt-MOST_NUMBERS.false c.if-text-gt-MOST_BYTES.false c.in-Unreadable.ensures.numbers in
+    let a = c.args in
+    let wide = c.if-numbers-lt-MOST_NUMBERS.false in
+    let short = c.if-text-gt-MOST_BYTES.false in
+    let p = none_read a.text.now (length a.numbers.now) wide short c.in-Unreadable.ensures.numbers in
     record { form = p.0; said = p.1 }
 
 pub returns-in-Count : goal.returns-in-Count
 returns-in-Count c =
+    let a = c.args in
+    let list = c.read_numbers-found.new.list in
     let read = c.in-Count in
-    let p = some_read c.args.text.now (length c.args.numbers.now) c.if-numbers-lt-MOST_NUMBERS.false c.if-text-gt-MOST_BYTES.false c.read_numbers-found.new.list read.count (omega (arith, read.ensures.within)) read.ensures.numbers c.sections_of.ensures in
+    let wide = c.if-numbers-lt-MOST_NUMBERS.false in
+    let short = c.if-text-gt-MOST_BYTES.false in
+    let fits : read.count ≤ length list = omega (arith, read.ensures.within) in
+    let p = some_read a.text.now (length a.numbers.now) wide short list read.count fits read.ensures.numbers c.sections_of.ensures in
     record { form = p.0; said = p.1 }
