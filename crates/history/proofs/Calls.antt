@@ -3,7 +3,7 @@ use Prim.Native.Nat.{ℕ, ◌+◌, ◌*◌, ◌/◌, ◌<◌, ◌≤◌, zero-le
 use native.Mathlib.Omega.{arith}
 use mathlib.Core.Path.{◌≡◌, refl, sym, ◌∙◌, subst}
 use mathlib.Core.Logic.{◌⊎◌, inl, inr, ◌≢◌}
-use mathlib.Core.Bool.{Bool, true, false, false≢true}
+use mathlib.Core.Bool.{true, false, false≢true}
 use lib.Dec.{eqb}
 use lib.ListN.{length, length-replicate}
 use borrow.Author.Tests.{eq-eqb, ne_eqb, lt-leb}
@@ -15,8 +15,8 @@ use Rattle.tracking.proofs.View.{counting-new, estimate-new, quotients-new}
 use Rattle.tracking.proofs.View.{spill-within, spill-below, count-within}
 use Rattle.banks.proofs.Banks.{bank-itself}
 use Rattle.row_layout.proofs.Laws.{length-written}
-use Rattle.engine.specs.State.{State, Tracker, lengths_of, tracker_of, tracker_at, ring_of, forward_of, reverse_of}
-use Rattle.engine.specs.Steps.{place, moves, skipped, destination, rise, move, state_after}
+use Rattle.engine.specs.State.{State, Tracker, lengths_of, tracker_of, tracker_at, forward_of, reverse_of}
+use Rattle.engine.specs.Steps.{place, moves, destination, rise, move, state_after}
 use Rattle.engine.specs.declared.Asked.{Asked}
 use Rattle.engine.specs.Ladder.{look_asked, row_unsound, destination_unsound, row_number, tick_number, inspect_number, access_number}
 use Rattle.engine.specs.Calls as calls

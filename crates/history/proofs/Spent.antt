@@ -1,18 +1,17 @@
 -- No access gets 9 early in an epoch, after every list of calls. Assumes nothing.
-use Prim.Native.Nat.{ℕ, suc, ◌+◌, ◌*◌, ◌≤◌, ◌<◌}
+use Prim.Native.Nat.{ℕ, suc, ◌*◌, ◌≤◌, ◌<◌}
 use native.Mathlib.Omega.{arith}
 use mathlib.Core.Path.{◌≡◌, refl, sym, subst}
-use mathlib.Core.Logic.{inl, inr, ◌≢◌}
+use mathlib.Core.Logic.{inl, inr}
 use borrow.Author.Tests.{eq-eqb, ne_eqb}
 use Rattle.geometry.specs.declared.Settings.{Settings}
 use Rattle.geometry.specs.Entry.{empty}
 use Rattle.conditions.proofs.Facts.{limit-fact}
 use Rattle.tracking.proofs.Sums.{total, quotients, sum_zeros, quotients-low}
-use Rattle.tracking.proofs.Tracking.{one-if}
 use Rattle.tracking.proofs.View.{quotients-new}
 use Rattle.engine.specs.State.{State, tracker_at}
 use Rattle.engine.specs.Answer.{slot_moved_to}
-use Rattle.engine.specs.Steps.{place, counted, moves, move}
+use Rattle.engine.specs.Steps.{place, counted, move}
 use Rattle.engine.specs.Calls as calls
 use Rattle.engine.proofs.Facts.{accepted, wanting}
 use Rattle.engine.proofs.Trackers.{TracksAt}
