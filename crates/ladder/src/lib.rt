@@ -15,6 +15,7 @@ use engine::Asked;
 use geometry::{Control, ForwardEntry, Lengths, ReverseEntry, Ring, Settings, Slot, VisibleRow};
 
 // Returns the number of the settings: 1 where one is outside its range, 2 where L is too large, else 0.
+#[tactic(auto, using(engine::proofs::Rungs::halts, engine::proofs::Rungs::goes_on, engine::proofs::Rungs::applies, engine::proofs::Rungs::goes_by), unfolding(engine::specs::Ladder::settings_number))]
 pub fn settings_number(s: Settings) -> u32
     ensures { result ≡ settings_number s }
 {
@@ -28,6 +29,7 @@ pub fn settings_number(s: Settings) -> u32
 }
 
 // Returns 1, 2 or 3 where the settings or a length are refused, else 0: the number of a set-up.
+#[tactic(auto, using(engine::proofs::Rungs::halts, engine::proofs::Rungs::goes_on, engine::proofs::Rungs::applies, engine::proofs::Rungs::goes_by), unfolding(engine::specs::Ladder::fit_number))]
 pub fn fit_number(s: Settings, lengths: Lengths) -> u32
     ensures { result ≡ fit_number s lengths }
 {
@@ -42,6 +44,7 @@ pub fn fit_number(s: Settings, lengths: Lengths) -> u32
 }
 
 // Tells whether 4 applies because of `head` or `passed`.
+#[tactic(auto, unfolding(engine::specs::Ladder::ring_unsound))]
 fn ring_unsound(s: Settings, ring: Ring) -> bool
     ensures { result ≡ ring_unsound s ring }
 {
@@ -49,6 +52,7 @@ fn ring_unsound(s: Settings, ring: Ring) -> bool
 }
 
 // Tells whether 4 applies because of a bank's numbers.
+#[tactic(auto, unfolding(engine::specs::Ladder::tracker_unsound))]
 fn tracker_unsound(s: Settings, spill: u32, acts: u32, counts: &[u32]) -> bool
     ensures { result ≡ tracker_unsound s spill acts counts.now }
 {
@@ -57,6 +61,7 @@ fn tracker_unsound(s: Settings, spill: u32, acts: u32, counts: &[u32]) -> bool
 
 // Tells whether 4 applies because of the numbers of some bank from the second on. With one bank, the usual case, it
 // does not.
+#[tactic(auto, unfolding(crate::specs::Stages::others_unsound))]
 pub fn others_unsound(s: Settings, control: Control, counts: &[u32]) -> bool
     requires { (1 ≤ s.b) × (s.b ≤ most_banks) × (length counts.now ≡ s.b * s.k) }
     ensures { result ≡ others_unsound s control.spill control.acts counts.now }
@@ -80,6 +85,7 @@ pub fn others_unsound(s: Settings, control: Control, counts: &[u32]) -> bool
 }
 
 // Tells whether 4 applies because of `head`, `passed` or the first bank. spill, acts: of the first bank.
+#[tactic(auto, unfolding(crate::specs::Stages::first_unsound))]
 pub fn first_unsound(s: Settings, ring: Ring, spill: u32, acts: u32, counts: &[u32]) -> bool
     requires { s.k ≤ length counts.now }
     ensures { result ≡ first_unsound s ring spill acts counts.now }
@@ -170,6 +176,7 @@ pub fn reverse_of(reverse: &[u16], slot: Slot) -> ReverseEntry
 }
 
 // Tells whether 7 applies because of the pointers of a row with that forward entry.
+#[tactic(auto, unfolding(engine::specs::Ladder::points_back))]
 fn row_unsound(s: Settings, row: VisibleRow, entry: ForwardEntry, reverse: &[u16]) -> bool
     requires { length reverse.now ≡ s.q }
     ensures { result ≡ not (points_back entry.0 s.q reverse.now row.0) }
@@ -186,6 +193,7 @@ fn row_unsound(s: Settings, row: VisibleRow, entry: ForwardEntry, reverse: &[u16
 }
 
 // Tells whether 7 applies because of the pointers of a slot that is a destination.
+#[tactic(auto, unfolding(engine::specs::Ladder::destination_unsound, engine::specs::Ladder::points_back))]
 pub fn destination_unsound(s: Settings, d: Slot, forward: &[u16], reverse: &[u16]) -> bool
     requires { Tabled s forward.now reverse.now × (d.0 < s.q) }
     ensures { result ≡ destination_unsound s (tables_in forward reverse) d.0 }
@@ -203,6 +211,7 @@ pub fn destination_unsound(s: Settings, d: Slot, forward: &[u16], reverse: &[u16
 }
 
 // Returns the first of 5, 6 and 7 (row's pointers) that applies, or 0.
+#[tactic(auto, using(engine::proofs::Rungs::halts, engine::proofs::Rungs::goes_on, engine::proofs::Rungs::applies, engine::proofs::Rungs::goes_by), unfolding(engine::specs::Ladder::row_number, engine::specs::Ladder::row_unsound))]
 pub fn row_number(s: Settings, asked: Asked, forward: &[u16], reverse: &[u16]) -> u32
     requires { Tabled s forward.now reverse.now }
     ensures { result ≡ row_number s (tables_in forward reverse) asked }
