@@ -1,59 +1,75 @@
--- An array in a field, with another value at one place: its machine value, and that it is related to its elements.
+-- An array, with another value at one place: its machine value, and that it is related to its elements.
+--     set-val, set_is      of an array whose elements are a field's values
+--     row-set-val, row-set_is      the same of an array of a type whose machine value is a function of what it denotes
 -- Assumes nothing.
 use mathlib.Core.Path.{◌≡◌, refl, sym, ap, subst, ◌∙◌}
 use Prim.Native.Nat.{ℕ, zero, suc}
 use mathlib.Core.List.{List, [], ◌∷◌, map}
-use lib.ListN.{length-map, set, length-set}
+use lib.ListN.{set, length-set}
 use mir.Val.{Val, vcons, of_list}
 use mir.Fields.{set_v}
 use denote.Array.{each, Array, array_val}
-use denote.Laws.{Is}
+use denote.Laws.{Is, Tells}
 use denote.RattleType.{RattleType}
 use denote.Shadow.{shadow}
 use denote.Struct.Field.{Field}
 use denote.Struct.Laws as LL
 
--- F: a field of the elements' type
-module _ (F : Field) (L : LL.FLaws F) where
-  abbrev R : RattleType
-  R = F.row
+map-set : {A B : Type 0} (f : A → B) (xs : List A) (i : ℕ) (x : A) → map f (set xs i x) ≡ set (map f xs) i (f x)
+map-set f [] i x = refl
+map-set f (y ∷ xs) zero x = refl
+map-set f (y ∷ xs) (suc i) x = ap (λ ys. f y ∷ ys) (map-set f xs i x)
 
-  -- what they denote, and their machine values
-  abbrev seen : List F.Value → List R.Denot
-  seen xs = map F.into xs
-
+-- R: the elements' type
+module _ (R : RattleType) (val : R.Denot → Val) where
   abbrev vals : List R.Denot → List Val
-  vals ys = map L.val ys
+  vals ys = map val ys
 
-  pub set-val : (xs : List F.Value) (i : ℕ) (x : F.Value)
-      → set_v (of_list (vals (seen xs))) i (L.val (F.into x)) ≡ of_list (vals (seen (set xs i x)))
-  set-val [] i x = refl
-  set-val (y ∷ xs) zero x = refl
-  set-val (y ∷ xs) (suc i) x = ap (vcons (L.val (F.into y))) (set-val xs i x)
+  pub row-set-val : (ys : List R.Denot) (i : ℕ) (y : R.Denot)
+      → set_v (of_list (vals ys)) i (val y) ≡ of_list (vals (set ys i y))
+  row-set-val [] i y = refl
+  row-set-val (x ∷ ys) zero y = refl
+  row-set-val (x ∷ ys) (suc i) y = ap (vcons (val x)) (row-set-val ys i y)
 
   -- each of ys is related to its machine value among us
   abbrev Each : List R.Denot → List Val → Type 0
   Each ys us = shadow (each R.Denot R.own_val ys us)
 
-  spelled : (ys : List R.Denot) (us : List Val) → Each ys us → Each ys (vals ys)
-  spelled [] [] s = tt
-  spelled [] (u ∷ us) s = absurd s
-  spelled (y ∷ ys) [] s = absurd s
-  spelled (y ∷ ys) (u ∷ us) s = (subst (Is R y) (L.tells y (u ∷ []) s.0) s.0, spelled ys us s.1)
+  module _ (tells : Tells R (Is R) (λ y. val y ∷ [])) where
+    spelled : (ys : List R.Denot) (us : List Val) → Each ys us → Each ys (vals ys)
+    spelled [] [] s = tt
+    spelled [] (u ∷ us) s = absurd s
+    spelled (y ∷ ys) [] s = absurd s
+    spelled (y ∷ ys) (u ∷ us) s = (subst (Is R y) (tells y (u ∷ []) s.0) s.0, spelled ys us s.1)
 
-  each_set : (xs : List F.Value) (i : ℕ) (x : F.Value) → Is R (F.into x) (L.val (F.into x) ∷ [])
-      → Each (seen xs) (vals (seen xs)) → Each (seen (set xs i x)) (vals (seen (set xs i x)))
-  each_set [] i x is s = tt
-  each_set (y ∷ xs) zero x is s = (is, s.1)
-  each_set (y ∷ xs) (suc i) x is s = (s.0, each_set xs i x is s.1)
+    each_set : (ys : List R.Denot) (i : ℕ) (y : R.Denot) → Is R y (val y ∷ []) → Each ys (vals ys)
+        → Each (set ys i y) (vals (set ys i y))
+    each_set [] i y is s = tt
+    each_set (x ∷ ys) zero y is s = (is, s.1)
+    each_set (x ∷ ys) (suc i) y is s = (s.0, each_set ys i y is s.1)
 
-  pub set_is : (n : ℕ) (xs : List F.Value) (i : ℕ) (x : F.Value) {vs : List Val} → Is (Array R n) (seen xs) vs
-      → Is R (F.into x) (L.val (F.into x) ∷ [])
-      → Is (Array R n) (seen (set xs i x)) (array_val (vals (seen (set xs i x))) ∷ [])
-  set_is n xs i x p is = (
-    vals (seen (set xs i x)),
-    (
-      (refl, length-map (set xs i x) F.into ∙ length-set xs i x ∙ sym (length-map xs F.into) ∙ p.1.0.1),
-      each_set xs i x is (spelled (seen xs) p.0 p.1.1),
-    ),
-  )
+    pub row-set_is : (n : ℕ) (ys : List R.Denot) (i : ℕ) (y : R.Denot) {vs : List Val} → Is (Array R n) ys vs
+        → Is R y (val y ∷ []) → Is (Array R n) (set ys i y) (array_val (vals (set ys i y)) ∷ [])
+    row-set_is n ys i y p is =
+        (vals (set ys i y), ((refl, length-set ys i y ∙ p.1.0.1), each_set ys i y is (spelled ys p.0 p.1.1)))
+
+-- F: a field of the elements' type
+module _ (F : Field) (L : LL.FLaws F) where
+  -- what they denote, and their machine values
+  abbrev seen : List F.Value → List F.row.Denot
+  seen xs = map F.into xs
+
+  abbrev seen-vals : List F.row.Denot → List Val
+  seen-vals ys = map L.val ys
+
+  pub set-val : (xs : List F.Value) (i : ℕ) (x : F.Value)
+      → set_v (of_list (seen-vals (seen xs))) i (L.val (F.into x)) ≡ of_list (seen-vals (seen (set xs i x)))
+  set-val xs i x =
+      row-set-val F.row L.val (seen xs) i (F.into x) ∙ ap (λ ys. of_list (seen-vals ys)) (sym (map-set F.into xs i x))
+
+  pub set_is : (n : ℕ) (xs : List F.Value) (i : ℕ) (x : F.Value) {vs : List Val} → Is (Array F.row n) (seen xs) vs
+      → Is F.row (F.into x) (L.val (F.into x) ∷ [])
+      → Is (Array F.row n) (seen (set xs i x)) (array_val (seen-vals (seen (set xs i x))) ∷ [])
+  set_is n xs i x p is =
+      subst (λ ys. Is (Array F.row n) ys (array_val (seen-vals ys) ∷ [])) (sym (map-set F.into xs i x))
+      (row-set_is F.row L.val L.tells n (seen xs) i (F.into x) p is)

@@ -33,7 +33,7 @@ use Rattle.walk.proofs.Locals.{takes, conj, apart}
 use Rattle.walk.proofs.Cells.{sets}
 use Rattle.walk.proofs.Parts.{part, leads, the-part, part_of}
 use Rattle.walk.proofs.Spelled.{Spelled, struct, spelled-fits}
-use Rattle.walk.proofs.Stores.{Store, storing, Alike, Within, stored, tests, stores}
+use Rattle.walk.proofs.Stores.{Store, begun, storing, Alike, Within, stored, tests, stores}
 use Rattle.walk.proofs.Frame.{ends}
 use Rattle.walk.proofs.Parameters.{Param, free_from}
 use Rattle.walk.proofs.Form.{Record, Form, at_call}
@@ -64,7 +64,7 @@ pub record Answer (T : Record) : Type 2 where
       → Is (row T.X) (to h d) (LL.vals T.X T.laws (to h d))
   pub gives-is : (d : Y.D) (vs : List Val) → Is (row Y) d vs → Is R (gives d) (spelled.val (gives d) ∷ [])
 
--- the local in which indices are scaled: the first that is free
+-- the first local that is free: in it each `indexed` scales its index
 abbrev scaled : List Param → ℕ
 scaled ps = free_from (suc (suc (suc (suc (length ps))))) ps
 
@@ -97,12 +97,12 @@ mutable {T} An ps =
       sound = λ κ d. Within (LL.val An.Y An.laws d) An.stores;
       answer = answer;
       copied = suc answer;
-      rest = storing x y answer (scaled ps) (suc (scaled ps)) An.stores
+      rest = storing x y answer (scaled ps) (begun (scaled ps) An.stores) An.stores
           (seq (assign (place 0 []) (rv_opd (the-part answer An.from))) return);
       typed = λ τs. (type_at τs answer ≡ y) × ((b o : ℕ) (h : T.X.D) (d : An.Y.D)
           → let v = LL.val An.Y An.laws d in
           T' (conj (conj (leads An.from y v)
-          ∷ tests v x y answer (scaled ps) τs b o (suc (scaled ps)) An.stores (LL.val T.X T.laws h))));
+          ∷ tests v x y answer (scaled ps) τs b o (begun (scaled ps) An.stores) An.stores (LL.val T.X T.laws h))));
     }
 
 module _ {M : Type 1} {𝓤 : Ura M} (𝓛 : Logic 𝓤) {T : Record} (An : Answer T)
@@ -121,6 +121,7 @@ module _ {M : Type 1} {𝓤 : Ura M} (𝓛 : Logic 𝓤) {T : Record} (An : Answ
       let Y : Ty = layout (shape An.Y) in
       let w : Val = LL.val T.X T.laws x.now in
       let k : ℕ = scaled ps in
+      let m : ℕ = begun k An.stores in
       let called : Contents = at_call F z in
       let type : (local_at E F.answer).0 ≡ Y = type-at E F.answer ∙ ok.rest.0 in
       opened T x.now b o ! tt (λ was. let good = spelled-fits 𝓛 (struct T.X T.laws) x.now was in
@@ -140,11 +141,11 @@ module _ {M : Type 1} {𝓤 : Ura M} (𝓛 : Logic 𝓤) {T : Record} (An : Answ
       let fits-r = spelled-fits 𝓛 An.spelled (An.gives d) is-r in
       let takes-r : T' (takes 0 (types_of E) r) = ok.result κs.1 (An.gives d) fits-r.0 in
       let able = apart (conj (leads An.from Y v)
-      ∷ tests v X Y F.answer k (types_of E) b o (suc k) An.stores w) (ok.rest.1 b o x.now d) in
+      ∷ tests v X Y F.answer k (types_of E) b o m An.stores w) (ok.rest.1 b o x.now d) in
       let given = apart (leads An.from Y v) able.0 in
       -- [the locals; the record's cell; what the answer owns; the tokens; the last values; what is ensured; the borrow]
       move ! (0 ∷ 5 ∷ []) $
-      stores 𝓛 C Λ E X Y F.answer k v b o type takes-d (there 𝓛 C Λ E ok z).0 An.stores (suc k) w
+      stores 𝓛 C Λ E X Y F.answer k v b o type takes-d (there 𝓛 C Λ E ok z).0 An.stores m w
       (put F.answer v called) An.alike within able.1 (content-put F.answer v called, points) (λ cs has.
       assigns ! (of_opd ! (part_of E ! F.answer An.from Y v cs type given takes-d has (An.gives-val d)))
       (from ! (stop !)) (sets ! E 0 r cs takes-r fits-r.1) $

@@ -3,8 +3,10 @@
 --     plain to from            to the record's part `to`: `x.a = t.b.c`, or `*x = t.b` where `to` is empty
 --     indexed to n index from  to an element of the array of n there, whose number is another part of the answer:
 --                              `x.a[t.i] = t.b`, where an element has more than one byte
--- The compiler scales each index in the same local, and has two more for each such store: where the array begins, and
--- where the element lies.
+--     moved, moved_at          the same two as the compiler writes them: what is stored, and the index, are copied into
+--                              locals of their own first
+-- An `indexed` scales its index in one local for all, and takes two more: where the array begins, and where the element
+-- lies. A `moved` takes one local, and a `moved_at` five: for what is stored, the index, the index scaled, and those two.
 --     storing          the code of the stores.        stored       the record's value after them
 --     Alike            what is stored is of the type of what was there.        Within       each index is within its array
 --     tests            what else the rule for them, `stores`, asks: tests that compute
@@ -12,7 +14,7 @@
 use mathlib.Core.Path.{◌≡◌, refl, sym, ap, subst, ◌∙◌}
 use Prim.Native.Nat.{ℕ, zero, suc, ◌+◌, ◌*◌, ◌^◌, ◌<◌}
 use native.Mathlib.Nat.{le_of_lt, lt_of_le_of_lt, mul-le-mul_right}
-use mathlib.Core.Bool.{Bool}
+use mathlib.Core.Bool.{Bool, false}
 use mathlib.Core.Option.{some}
 use mathlib.Core.List.{List, [], ◌∷◌}
 use seplogic.Ra.Ura.{Ura}
@@ -21,6 +23,7 @@ use lib.Dec.{T, ltb, ltb→lt}
 use mir.Syntax.{Ty, ty_int, w64, ty_array, deref, place, int, copy, rv_opd, op2, mul, unsigned, offset, addr_of, Body, seq, assign}
 use mir.Raw.{raw as raw_ty}
 use mir.Val.{Val, vunit, vbool, vint, vfloat, vptr, vcode, vstruct, Fits as Number, has_ty}
+use mir.Code.{same_ty, same_ty→eq}
 use mir.ValLaws.{eq_w→eq}
 use mir.Fields.{set_v}
 use base.Fml.{fat}
@@ -40,6 +43,32 @@ use Rattle.walk.proofs.Spelled.{Fits}
 pub data Store : Type 0 where
   plain : (to from : List ℕ) → Store
   indexed : (to : List ℕ) (n : ℕ) (index from : List ℕ) → Store
+  moved : (to from : List ℕ) → Store
+  moved_at : (to : List ℕ) (n : ℕ) (index from : List ℕ) → Store
+
+-- ---- the locals after m, by suc, which computes at any m
+abbrev past-two : ℕ → ℕ
+past-two m = suc (suc m)
+
+abbrev past-three : ℕ → ℕ
+past-three m = suc (past-two m)
+
+abbrev past-four : ℕ → ℕ
+past-four m = suc (past-three m)
+
+abbrev past-five : ℕ → ℕ
+past-five m = suc (past-four m)
+
+-- ---- a local of the type σ
+abbrev typed-as : ℕ → List Ty → Ty → Bool
+typed-as i [] σ = false
+typed-as zero (τ ∷ τs) σ = same_ty τ σ
+typed-as (suc i) (τ ∷ τs) σ = typed-as i τs σ
+
+takes-as : (i : ℕ) (τs : List Ty) (σ : Ty) (v : Val) → T (typed-as i τs σ) → T (has_ty σ v) → T (takes i τs v)
+takes-as i [] σ v t h = absurd t
+takes-as zero (τ ∷ τs) σ v t h = subst (λ (ρ : Ty). T (has_ty ρ v)) (sym (same_ty→eq τ σ t)) h
+takes-as (suc i) (τ ∷ τs) σ v t h = takes-as i τs σ v t h
 
 -- ---- indices
 abbrev pub number : Val → ℕ
@@ -78,11 +107,41 @@ module _ (X Y : Ty) where
       addressing answer k m to index (size (type_to from Y))
       (seq (assign (place (suc m) (deref (type_to from Y) ∷ [])) (rv_opd (the-part answer from)))
       (storing answer k (suc (suc m)) ss rest))
+  storing answer k m (moved to from ∷ ss) rest =
+      seq (assign (place m []) (rv_opd (the-part answer from)))
+      (seq (assign (place 1 (deref X ∷ steps to)) (rv_opd (the-part m []))) (storing answer k (suc m) ss rest))
+  storing answer k m (moved_at to n index from ∷ ss) rest =
+      seq (assign (place m []) (rv_opd (the-part answer from)))
+      (seq (assign (place (suc m) []) (rv_opd (the-part answer index)))
+      (addressing (suc m) (past-two m) (past-three m) to [] (size (type_to from Y))
+      (seq (assign (place (past-four m) (deref (type_to from Y) ∷ [])) (rv_opd (the-part m [])))
+      (storing answer k (past-five m) ss rest))))
 
   abbrev pub Alike : List Store → Type 0
   Alike [] = Unit {0}
   Alike (plain to from ∷ ss) = (type_to from Y ≡ type_to to X) × Alike ss
   Alike (indexed to n index from ∷ ss) = (type_to to X ≡ ty_array (type_to from Y) n) × Alike ss
+  Alike (moved to from ∷ ss) = (type_to from Y ≡ type_to to X) × Alike ss
+  Alike (moved_at to n index from ∷ ss) = (type_to to X ≡ ty_array (type_to from Y) n) × Alike ss
+
+-- where the locals of the stores begin: k, or after it where an `indexed` scales its index there
+abbrev pub begun : ℕ → List Store → ℕ
+begun k [] = k
+begun k (plain to from ∷ ss) = begun k ss
+begun k (indexed to n index from ∷ ss) = suc k
+begun k (moved to from ∷ ss) = begun k ss
+begun k (moved_at to n index from ∷ ss) = begun k ss
+
+-- ---- the locals of an index, scaled in k: local i is none of the three
+abbrev spared : (k m i : ℕ) → List Bool
+spared k m i = differ i k ∷ differ i m ∷ differ i (suc m) ∷ []
+
+-- these take the number j of bytes before the element, where its array begins, and where it lies; a: the local of the value
+-- that holds the index
+abbrev taken : (τs : List Ty) (b a k m j p : ℕ) → List Bool
+taken τs b a k m j p =
+    takes k τs (vint w64 j) ∷ takes m τs (vptr b p) ∷ takes (suc m) τs (vptr b (j + p)) ∷ differ k m
+    ∷ conj (spared k m a) ∷ conj (spared k m 1) ∷ []
 
 -- ---- v: the answer's value; w: the record's
 module _ (v : Val) where
@@ -90,10 +149,15 @@ module _ (v : Val) where
   Within [] = Unit {0}
   Within (plain to from ∷ ss) = Within ss
   Within (indexed to n index from ∷ ss) = (number (part index v) < n) × Within ss
+  Within (moved to from ∷ ss) = Within ss
+  Within (moved_at to n index from ∷ ss) = (number (part index v) < n) × Within ss
 
   abbrev after : Store → Val → Val
   after (plain to from) w = changed to w (part from v)
   after (indexed to n index from) w =
+      changed to w (vstruct (set_v (fields_of (part to w)) (number (part index v)) (part from v)))
+  after (moved to from) w = changed to w (part from v)
+  after (moved_at to n index from) w =
       changed to w (vstruct (set_v (fields_of (part to w)) (number (part index v)) (part from v)))
 
   abbrev pub stored : List Store → Val → Val
@@ -102,15 +166,11 @@ module _ (v : Val) where
 
   -- τs: the locals' types; b, o: where the record lies
   module _ (X Y : Ty) (answer k : ℕ) (τs : List Ty) (b o : ℕ) where
-    -- local i is none of the three that an index takes
-    abbrev spared : ℕ → ℕ → List Bool
-    spared m i = differ i k ∷ differ i m ∷ differ i (suc m) ∷ []
-
-    -- these take the number j of bytes before the element, where its array begins, and where it lies
-    abbrev taken : ℕ → ℕ → ℕ → List Bool
-    taken m j p =
-        takes k τs (vint w64 j) ∷ takes m τs (vptr b p) ∷ takes (suc m) τs (vptr b (j + p)) ∷ differ k m
-        ∷ conj (spared m answer) ∷ conj (spared m 1) ∷ []
+    -- what is stored, of the type σ, goes into local m, and its index u into the next; the locals that are read keep theirs
+    abbrev lodged : ℕ → Ty → Val → List Bool
+    lodged m σ u =
+        typed-as m τs σ ∷ takes (suc m) τs u ∷ differ answer m ∷ differ answer (suc m) ∷ differ 1 m ∷ differ 1 (suc m)
+        ∷ differ m (suc m) ∷ conj (spared (past-two m) (past-three m) answer) ∷ conj (spared (past-two m) (past-three m) m) ∷ []
 
     abbrev pub tests : ℕ → List Store → Val → List Bool
     tests m [] w = []
@@ -120,18 +180,25 @@ module _ (v : Val) where
         let s : ℕ = size (type_to from Y) in
         conj (leads to X w) ∷ conj (leads from Y v)
         ∷ conj (is_struct (part to w) ∷ ltb (n * s) (2 ^ 64) ∷ ltb s (2 ^ 64) ∷ has_ty (ty_int w64) (part index v) ∷ [])
-        ∷ conj (leads index Y v) ∷ conj (taken m (number (part index v) * s) (offset_to to X o))
+        ∷ conj (leads index Y v) ∷ conj (taken τs b answer k m (number (part index v) * s) (offset_to to X o))
         ∷ tests (suc (suc m)) ss (after (indexed to n index from) w)
+    tests m (moved to from ∷ ss) w =
+        conj (leads to X w) ∷ conj (leads from Y v)
+        ∷ conj (typed-as m τs (type_to from Y) ∷ differ answer m ∷ differ 1 m ∷ [])
+        ∷ tests (suc m) ss (after (moved to from) w)
+    tests m (moved_at to n index from ∷ ss) w =
+        let s : ℕ = size (type_to from Y) in
+        conj (leads to X w) ∷ conj (leads from Y v)
+        ∷ conj (is_struct (part to w) ∷ ltb (n * s) (2 ^ 64) ∷ ltb s (2 ^ 64) ∷ has_ty (ty_int w64) (part index v) ∷ [])
+        ∷ conj (leads index Y v) ∷ conj (lodged m (type_to from Y) (part index v))
+        ∷ conj (taken τs b (suc m) (past-two m) (past-three m) (number (part index v) * s) (offset_to to X o))
+        ∷ tests (past-five m) ss (after (moved_at to n index from) w)
 
 -- ---- the rule
 module _ {M : Type 1} {𝓤 : Ura M} (𝓛 : Logic 𝓤) (C : Calls 𝓤 𝓛.H) (Λ : Loops 𝓤 𝓛.H) (E : Env 𝓤 𝓛.H)
     (X Y : Ty) (answer k : ℕ) (v : Val) (b o : ℕ) (type : (local_at E answer).0 ≡ Y) (holds : T (takes answer (types_of E) v))
     (points : T (takes 1 (types_of E) (vptr b o))) where
-  -- the record's cell
   open 𝓛 use {H}
-
-  abbrev Cell : Val → Item 𝓤
-  Cell w = ‵ (fat full_share (raw_ty X) b o w)
 
   -- the answer and the reference are in their locals
   abbrev There : Contents → Type 0
@@ -155,19 +222,19 @@ module _ {M : Type 1} {𝓤 : Ura M} (𝓛 : Logic 𝓤) (C : Calls 𝓤 𝓛.H)
     abbrev cs₃ : Contents
     cs₃ = put (suc m) (vptr b (j + p)) cs₂
 
-    kept : (i : ℕ) → Each (spared v X Y answer k (types_of E) b o m i) → content i cs₃ ≡ content i cs
+    kept : (i : ℕ) → Each (spared k m i) → content i cs₃ ≡ content i cs
     kept i other =
         content-other i (suc m) (vptr b (j + p)) cs₂ other.1.1.0 ∙ content-other i m (vptr b p) cs₁ other.1.0
         ∙ content-other i k (vint w64 j) cs other.0
 
     addressed : Each (leads to X w) → Each (leads index Y v) → T (has_ty (ty_int w64) (part index v)) → T (ltb s (2 ^ 64))
-        → Number w64 j → Each (taken v X Y answer k (types_of E) b o m j p) → There cs
+        → Number w64 j → Each (taken (types_of E) b answer k m j p) → There cs
         → {q : Post 𝓤 H} {rest : Body} {Γ : List (Item 𝓤)}
         → (There cs₃ → content (suc m) cs₃ ≡ some (vptr b (j + p)) → Sq 𝓛 (locals 𝓛 E cs₃ ∷ Γ) (runs C Λ E rest q))
         → Sq 𝓛 (locals 𝓛 E cs ∷ Γ) (runs C Λ E (addressing X Y answer k m to index s rest) q)
     addressed there given whole small fits own at next =
-        let others = apart (spared v X Y answer k (types_of E) b o m 1) own.1.1.1.1.1.0 in
-        let answers = apart (spared v X Y answer k (types_of E) b o m answer) own.1.1.1.1.0 in
+        let others = apart (spared k m 1) own.1.1.1.1.1.0 in
+        let answers = apart (spared k m answer) own.1.1.1.1.0 in
         let at₁ = content-other 1 k (vint w64 j) cs others.0 ∙ at.1 in
         let begins = content-put m (vptr b p) cs₁ in
         let scaled = content-other k m (vptr b p) cs₁ own.1.1.1.0 ∙ content-put k (vint w64 j) cs in
@@ -180,8 +247,21 @@ module _ {M : Type 1} {𝓤 : Ura M} (𝓛 : Logic 𝓤) (C : Calls 𝓤 𝓛.H)
         (sets ! E (suc m) (vptr b (j + p)) cs₂ own.1.1.0 tt) $
         next (kept answer answers ∙ at.0, kept 1 others ∙ at.1) (content-put (suc m) (vptr b (j + p)) cs₂)
 
+module _ {M : Type 1} {𝓤 : Ura M} (𝓛 : Logic 𝓤) (C : Calls 𝓤 𝓛.H) (Λ : Loops 𝓤 𝓛.H) (E : Env 𝓤 𝓛.H)
+    (X Y : Ty) (answer k : ℕ) (v : Val) (b o : ℕ) (type : (local_at E answer).0 ≡ Y) (holds : T (takes answer (types_of E) v))
+    (points : T (takes 1 (types_of E) (vptr b o))) where
+  open 𝓛 use {H}
+
+  -- the record's cell
+  abbrev Cell : Val → Item 𝓤
+  Cell w = ‵ (fat full_share (raw_ty X) b o w)
+
+  -- the answer and the reference are in their locals
+  abbrev Holds : Contents → Type 0
+  Holds cs = There 𝓛 C Λ E X Y answer k v b o type holds points cs
+
   pub stores : (ss : List Store) (m : ℕ) (w : Val) (cs : Contents) → Alike X Y ss → Within v ss
-      → Each (tests v X Y answer k (types_of E) b o m ss w) → There cs → {q : Post 𝓤 H} {rest : Body} {Γ : List (Item 𝓤)}
+      → Each (tests v X Y answer k (types_of E) b o m ss w) → Holds cs → {q : Post 𝓤 H} {rest : Body} {Γ : List (Item 𝓤)}
       → ((cs' : Contents) → content answer cs' ≡ some v
       → Sq 𝓛 (locals 𝓛 E cs' ∷ Cell (stored v ss w) ∷ Γ) (runs C Λ E rest q))
       → Sq 𝓛 (locals 𝓛 E cs ∷ Cell w ∷ Γ) (runs C Λ E (storing X Y answer k m ss rest) q)
@@ -202,12 +282,12 @@ module _ {M : Type 1} {𝓤 : Ura M} (𝓛 : Logic 𝓤) (C : Calls 𝓤 𝓛.H)
       let given = apart (leads from Y v) ok.1.0 in
       let fine = apart (is_struct (part to w) ∷ ltb (n * s) (2 ^ 64) ∷ ltb s (2 ^ 64) ∷ has_ty (ty_int w64) (part index v) ∷ [])
       ok.1.1.0 in
-      let own = apart (taken v X Y answer k (types_of E) b o m (i * s) p) ok.1.1.1.1.0 in
+      let own = apart (taken (types_of E) b answer k m (i * s) p) ok.1.1.1.1.0 in
       let small : i * s < 2 ^ 64 =
       lt_of_le_of_lt (mul-le-mul_right s (le_of_lt within.0)) (ltb→lt (n * s) (2 ^ 64) fine.1.0) in
-      addressed to index s m w cs there (apart (leads index Y v) ok.1.1.1.0) fine.1.1.1.0 fine.1.1.0
-      (record { fits = small }) own at (λ at₃ lies.
-      let cs₃ : Contents = cs₃ to index s m w cs in
+      addressed 𝓛 C Λ E X Y answer k v b o type holds points to index s m w cs there (apart (leads index Y v) ok.1.1.1.0)
+      fine.1.1.1.0 fine.1.1.0 (record { fits = small }) own at (λ at₃ lies.
+      let cs₃ : Contents = cs₃ 𝓛 C Λ E X Y answer k v b o type holds points to index s m w cs in
       typed-in ! (along ! from Y v given (local-at ! E answer Y v cs₃ type holds at₃.0)) (λ fits.
       assigns ! (of_opd ! (part_of E ! answer from Y v cs₃ type given holds at₃.0 refl))
       (behind E ! (suc m) b (i * s + p) cs₃ own.1.1.0 lies (stop !))
@@ -215,3 +295,63 @@ module _ {M : Type 1} {𝓤 : Ura M} (𝓛 : Logic 𝓤) (C : Calls 𝓤 𝓛.H)
       (subst (λ (σ : Ty). Part (Go {0}) 𝓛 (Cell w) full_share σ b p (part to w) (λ u. Cell (changed to w u))) alike.0
       (along ! to X w there (behind-raw !)))) fits) $
       stores ss (suc (suc m)) (after v (indexed to n index from) w) cs₃ alike.1 within.1 ok.1.1.1.1.1 at₃ next))
+  stores (moved to from ∷ ss) m w cs alike within ok at next =
+      let u : Val = part from v in
+      let there = apart (leads to X w) ok.0 in
+      let given = apart (leads from Y v) ok.1.0 in
+      let own = apart (typed-as m (types_of E) (type_to from Y) ∷ differ answer m ∷ differ 1 m ∷ []) ok.1.1.0 in
+      let cs' : Contents = put m u cs in
+      let at' : Holds cs' = (content-other answer m u cs own.1.0 ∙ at.0, content-other 1 m u cs own.1.1.0 ∙ at.1) in
+      typed-in ! (along ! from Y v given (local-at ! E answer Y v cs type holds at.0)) (λ fits.
+      let lodges = takes-as m (types_of E) (type_to from Y) u own.0 fits.0 in
+      assigns ! (of_opd ! (part_of E ! answer from Y v cs type given holds at.0 refl)) (of-local ! (stop !))
+      (sets ! E m u cs lodges fits.1) $
+      assigns ! (of_opd ! (part_of E ! m [] (local_at E m).0 u cs' refl tt lodges (content-put m u cs) refl))
+      (behind E ! 1 b o cs' points at'.1 (at_part ! to X w there))
+      (store_in ! 1 (along ! to X w there (behind-raw !)) (subst (λ (σ : Ty). Fits σ u) alike.0 fits)) $
+      stores ss (suc m) (after v (moved to from) w) cs' alike.1 within ok.1.1.1 at' next)
+  stores (moved_at to n index from ∷ ss) m w cs alike within ok at next =
+      let s : ℕ = size (type_to from Y) in
+      let u : Val = part from v in
+      let x : Val = part index v in
+      let i : ℕ = number x in
+      let p : ℕ = offset_to to X o in
+      let there = apart (leads to X w) ok.0 in
+      let given = apart (leads from Y v) ok.1.0 in
+      let fine = apart (is_struct (part to w) ∷ ltb (n * s) (2 ^ 64) ∷ ltb s (2 ^ 64) ∷ has_ty (ty_int w64) x ∷ []) ok.1.1.0 in
+      let given-x = apart (leads index Y v) ok.1.1.1.0 in
+      let own = apart (lodged v X Y answer k (types_of E) b o m (type_to from Y) x) ok.1.1.1.1.0 in
+      let takes-x : T (takes (suc m) (types_of E) x) = own.1.0 in
+      let clear = apart (spared (past-two m) (past-three m) answer) own.1.1.1.1.1.1.1.0 in
+      let clear-u = apart (spared (past-two m) (past-three m) m) own.1.1.1.1.1.1.1.1.0 in
+      let places = apart (taken (types_of E) b (suc m) (past-two m) (past-three m) (i * s) p) ok.1.1.1.1.1.0 in
+      let small : i * s < 2 ^ 64 =
+      lt_of_le_of_lt (mul-le-mul_right s (le_of_lt within.0)) (ltb→lt (n * s) (2 ^ 64) fine.1.0) in
+      let cs₁ : Contents = put m u cs in
+      let cs₂ : Contents = put (suc m) x cs₁ in
+      let at₁ : Holds cs₁ =
+      (content-other answer m u cs own.1.1.0 ∙ at.0, content-other 1 m u cs own.1.1.1.1.0 ∙ at.1) in
+      let at₂ : Holds cs₂ =
+      (content-other answer (suc m) x cs₁ own.1.1.1.0 ∙ at₁.0, content-other 1 (suc m) x cs₁ own.1.1.1.1.1.0 ∙ at₁.1) in
+      let has-u = content-other m (suc m) x cs₁ own.1.1.1.1.1.1.0 ∙ content-put m u cs in
+      let has-x = content-put (suc m) x cs₁ in
+      let I : Ty = (local_at E (suc m)).0 in
+      typed-in ! (along ! from Y v given (local-at ! E answer Y v cs type holds at.0)) (λ fits.
+      let lodges = takes-as m (types_of E) (type_to from Y) u own.0 fits.0 in
+      assigns ! (of_opd ! (part_of E ! answer from Y v cs type given holds at.0 refl)) (of-local ! (stop !))
+      (sets ! E m u cs lodges fits.1) $
+      typed-in ! (along ! index Y v given-x (local-at ! E answer Y v cs₁ type holds at₁.0)) (λ fits-x.
+      assigns ! (of_opd ! (part_of E ! answer index Y v cs₁ type given-x holds at₁.0 refl)) (of-local ! (stop !))
+      (sets ! E (suc m) x cs₁ takes-x fits-x.1) $
+      addressed 𝓛 C Λ E X I (suc m) (past-two m) x b o refl takes-x points to [] s (past-three m) w cs₂ there tt fine.1.1.1.0 fine.1.1.0
+      (record { fits = small }) places (has-x, at₂.1) (λ at₅ lies.
+      let cs₅ : Contents = cs₃ 𝓛 C Λ E X I (suc m) (past-two m) x b o refl takes-x points to [] s (past-three m) w cs₂ in
+      let keeps : (i : ℕ) → Each (spared (past-two m) (past-three m) i) → content i cs₅ ≡ content i cs₂ =
+      kept 𝓛 C Λ E X I (suc m) (past-two m) x b o refl takes-x points to [] s (past-three m) w cs₂ in
+      assigns ! (of_opd ! (part_of E ! m [] (local_at E m).0 u cs₅ refl tt lodges (keeps m clear-u ∙ has-u) refl))
+      (behind E ! (past-four m) b (i * s + p) cs₅ places.1.1.0 lies (stop !))
+      (store_in ! 1 (at-index ! (part to w) i fine.0 within.0
+      (subst (λ (σ : Ty). Part (Go {0}) 𝓛 (Cell w) full_share σ b p (part to w) (λ u. Cell (changed to w u))) alike.0
+      (along ! to X w there (behind-raw !)))) fits) $
+      stores ss (past-five m) (after v (moved_at to n index from) w) cs₅ alike.1 within.1 ok.1.1.1.1.1.1
+      (keeps answer clear ∙ at₂.0, at₅.1) next)))
