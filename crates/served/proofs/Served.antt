@@ -3,7 +3,7 @@ use Prim.Native.Nat.{ℕ}
 use mathlib.Core.Path.{◌≡◌, refl, sym, ap, ◌∙◌, subst}
 use mathlib.Core.Logic.{inl}
 use mathlib.Core.Bool.{false}
-use mathlib.Core.List.{List, [], ◌∷◌, map}
+use mathlib.Core.List.{List, [], ◌∷◌, ◌++◌, map}
 use native.Mathlib.Nat.{suc-ne-zero}
 use native.Mathlib.Omega.{arith}
 use Rattle.geometry.specs.declared.Settings.{Settings}
@@ -155,9 +155,11 @@ module _ (S : Settings) (blank σ : State) (begun : SetUpPromise S blank σ 0) w
   -- and a transcript after it
   numbers-occur : {before : List run.Event} {between : State} → Chain S new before between
       → (es : List Logged) (σ' : State) → Transcript S between es σ' → Each NumberOccurs es
-  numbers-occur past [] σ' t = tt
-  numbers-occur past (e ∷ es) σ' t =
-      (number-occurs past e t.0 t.1.0, numbers-occur (chain-append past (linked S settings e t.1.0 end)) es σ' t.1.1)
+  numbers-occur {before} past [] σ' t = tt
+  numbers-occur {before} past (e ∷ es) σ' t = (
+    number-occurs past e t.0 t.1.0,
+    numbers-occur {before = before ++ seen_of e ∷ []} (chain-append past (linked S settings e t.1.0 end)) es σ' t.1.1,
+  )
 
 -- what holds of every chain holds of every transcript
 transcripts : (P : Claim) → OfChains P → OfTranscripts P
