@@ -58,6 +58,7 @@ pub fn is_full(s: Settings, acts: u32) -> bool
 }
 
 // Returns the slot after so many slots from `head` on, round Q.
+#[tactic(auto, unfolding(engine::specs::Round::destination_from))]
 fn destination(s: Settings, head: u32, over: u32) -> Slot
     requires { (head < s.q) × (over < s.q) × (s.q ≤ 5500) }
     ensures { result ≡ slot (destination_from s head over) }
@@ -67,6 +68,7 @@ fn destination(s: Settings, head: u32, over: u32) -> Slot
 
 // Judges 9 and the destination's 7 for a row to be quarantined where the head skips so many slots, and returns where it
 // goes where neither applies.
+#[tactic(auto, using(crate::proofs::Judged::no_room, crate::proofs::Judged::unsound, crate::proofs::Judged::sound), unfolding(engine::specs::Round::destination_from))]
 pub fn judge(s: Settings, ring: Ring, over: u32, forward: &[u16], reverse: &[u16]) -> Verdict
     requires { Judgeable s ring over forward.now reverse.now }
     ensures { result ≡ quarantine_verdict s ring (tables_in forward reverse) over }
@@ -108,6 +110,7 @@ pub fn decide(
 // Tells whether an estimate calls for a move: there is one, and it is a multiple of A. An estimate below A, 0 for none
 // among them, is judged without a division, and so is A itself, which in a history is the estimate of every row that is
 // due.
+#[tactic(auto, using(tracking::proofs::Due::due_below))]
 pub fn is_due(s: Settings, estimate: u32) -> bool
     requires { 1 ≤ s.a }
     ensures { result ≡ is_due s.a estimate }
