@@ -4,7 +4,7 @@
 
 ghost use Rattle.std.specs.Prelude.{◌≡◌, ◌≤◌};
 ghost use Rattle.banks.specs.Banks.{most_banks};
-ghost use Rattle.engine.specs.State.{entering, leaving};
+ghost use Rattle.engine.specs.State.{state_of};
 ghost use Rattle.engine.specs.Calls.{noted_of, set_up, zero_below, tick};
 
 use geometry::{Control, Settings};
@@ -26,8 +26,8 @@ pub fn set_up(
     rows: &mut [u16],
     counts: &mut [u32],
 ) -> Numbered
-    ensures { let before = entering store forward reverse rows counts control in
-        let after = leaving store forward reverse rows counts result.control in
+    ensures { let before = state_of store.now forward.old reverse.old rows.old counts.old control in
+        let after = state_of store.now forward.new reverse.new rows.new counts.new result.control in
         noted_of after result.number ≡ set_up s before }
 {
     let lengths = geometry::lengths_of(store, forward, reverse, rows, counts);
@@ -48,6 +48,7 @@ pub fn set_up(
 }
 
 // Returns the numbers of the banks with those of the first b banks 0.
+#[tactic(auto, unfolding(engine::specs::Calls::zero_below))]
 fn zero_below(numbers: [u32; 16], b: usize) -> [u32; 16]
     requires { b ≤ most_banks }
     ensures { result ≡ zero_below b numbers }
@@ -67,8 +68,8 @@ pub fn tick(
     rows: &mut [u16],
     counts: &mut [u32],
 ) -> Numbered
-    ensures { let before = entering store forward reverse rows counts control in
-        let after = leaving store forward reverse rows counts result.control in
+    ensures { let before = state_of store.now forward.now reverse.now rows.old counts.old control in
+        let after = state_of store.now forward.now reverse.now rows.new counts.new result.control in
         noted_of after result.number ≡ tick s before }
 {
     let lengths = geometry::lengths_of(store, forward, reverse, rows, counts);
