@@ -5,7 +5,7 @@ ghost use Rattle.std.specs.Prelude.{◌≡◌, cond, ◌⊎◌, ◌<◌, length,
 ghost use Rattle.geometry.specs.Numbering.{home_row, slot_row};
 ghost use Rattle.geometry.specs.Entry.{empty, is_empty};
 ghost use Rattle.row_layout.specs.Bytes.{copied};
-ghost use Rattle.engine.specs.State.{storage_of, storage_entering, storage_leaving};
+ghost use Rattle.engine.specs.State.{storage_of};
 ghost use Rattle.engine.specs.Steps.{move_into, left, relocated};
 ghost use Rattle.settle.specs.Settling.{Sendable, Movable};
 
@@ -55,8 +55,8 @@ pub fn relocate(
 ) -> Ring
     requires { Movable s f v (storage_of store.old forward.old reverse.old ring) }
     ensures { let move = move_into v.d.0 v.held.0 in
-        let before = storage_entering store forward reverse ring in
-        storage_leaving store forward reverse result ≡ relocated s f.row.0 f.place.0 move before }
+        let before = storage_of store.old forward.old reverse.old ring in
+        storage_of store.new forward.new reverse.new result ≡ relocated s f.row.0 f.place.0 move before }
 {
     let d = v.d;
     let held = v.held;
