@@ -36,16 +36,18 @@ END
         exit 1
     fi
 
-    program=$root/target/bin/$name
+    # What rt makes stands in the folders out/, which are no sources.
+    program=$root/crates/$name/out/$name
     if [ ! -x "$program" ]; then
         building='the program is not built yet; it is proved first, which takes some minutes'
-        rm -f "$root/target/stamp/$name" # With this mark rt takes the program for built, even if it was removed.
-    elif [ -n "$(find "$root/crates" "$root/crates.txt" -newer "$program" -print -quit)" ]; then
+    elif [ "$root/crates.txt" -nt "$program" ] ||
+        [ -n "$(find "$root/crates" -mindepth 2 -name out -prune -o -newer "$program" -print -quit)" ]; then
         building='the sources have changed; the program is proved and built again'
     fi
     if [ -n "$building" ]; then
         echo "bin/$name: $building" >&2
-        (cd "$root" && rt check "$name") </dev/null >&2
+        # rt runs what it has built, here on no input: what the program prints then is dropped.
+        (cd "$root/crates/$name" && rt run) </dev/null >/dev/null
         touch "$program"
     fi
     [ "$file" = - ] || exec <"$file"

@@ -2,11 +2,11 @@
 // beside this program, `stdin`, has the cases of documents 01 and 02, and says how a script is written.
 #![tactic(auto)]
 
-ghost use Rattle.std.specs.Prelude.{◌≡◌, length};
+ghost use Rattle.std.specs.Prelude.{◌≡◌, ◌≤◌, length};
 
-use libc::STDIN_FILENO;
 use report::Case;
 use script::{Numbers, Scan};
+use std::io::{Read, Stdin, Stdout};
 
 mod bench;
 mod expect;
@@ -24,6 +24,20 @@ fn text_buffer() -> [u8; 262145]
     ensures { 262145 ≡ length result }
 {
     [0u8; 262145]
+}
+
+// Reads until the buffer is full, the script ends or a read fails, and tells how many bytes stand in the buffer.
+fn read_script(mut stdin: Stdin, text: &mut [u8]) -> usize
+    ensures { result ≤ length text.new }
+{
+    let mut done: usize = 0;
+    while done < text.len() {
+        match stdin.read(&mut text[done..]) {
+            Ok(0) | Err(_) => return done,
+            Ok(count) => done += count,
+        }
+    }
+    done
 }
 
 // The script as far as it is read, and the line that is read.
@@ -63,9 +77,9 @@ fn byte(text: &[u8], numbers: &mut Numbers, r: Reading, i: usize, b: u8) -> Read
 }
 
 // Every line, to the end of the script or to one that is refused.
-fn run(text: &[u8], numbers: &mut Numbers) -> Case {
+fn run(out: Stdout, text: &[u8], numbers: &mut Numbers) -> Case {
     let mut r = Reading {
-        case: report::begin(),
+        case: report::begin(out),
         scan: Scan::START,
     };
     let mut i: usize = 0;
@@ -80,11 +94,11 @@ fn run(text: &[u8], numbers: &mut Numbers) -> Case {
     last.case
 }
 
-fn main() {
+fn main(rt: HostRuntime) {
     let mut text = text_buffer();
-    let count = io::read_full(STDIN_FILENO, &mut text);
+    let count = read_script(rt.stdin(), &mut text);
     let mut numbers = [0u64; 512];
-    let c = run(&text[..count], &mut numbers);
+    let c = run(rt.stdout(), &text[..count], &mut numbers);
     if c.stopped {
         return;
     }

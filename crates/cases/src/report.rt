@@ -3,11 +3,13 @@
 use crate::memory;
 use crate::memory::Memory;
 use geometry::Settings;
-use libc::STDOUT_FILENO;
+use std::io::Stdout;
 
 // What the script has brought about so far.
 #[derive(Clone, Copy)]
 pub struct Case {
+    // where the lines are printed
+    pub out: Stdout,
     // the memory, and the same before the last call
     pub now: Memory,
     pub before: Memory,
@@ -33,7 +35,7 @@ pub struct Case {
 }
 
 // Before the first line. There is no memory yet: one for settings of 0 stands in its place.
-pub fn begin() -> Case {
+pub fn begin(out: Stdout) -> Case {
     let m = memory::new(Settings {
         n: 0,
         q: 0,
@@ -44,6 +46,7 @@ pub fn begin() -> Case {
         b: 0,
     });
     Case {
+        out,
         now: m,
         before: m,
         ready: false,
@@ -61,21 +64,21 @@ pub fn begin() -> Case {
     }
 }
 
-fn put(text: &[u8]) {
-    io::write_all(STDOUT_FILENO, text);
+fn put(out: Stdout, text: &[u8]) {
+    let _ = out.write_all(text);
 }
 
-fn put_number(label: &[u8], x: u64) {
-    put(label);
-    io::print_decimal(STDOUT_FILENO, x);
+fn put_number(out: Stdout, label: &[u8], x: u64) {
+    put(out, label);
+    let _ = out.print(x);
 }
 
 // The line is refused, for a reason.
 pub fn refuse(c: Case, reason: &[u8]) -> Case {
-    put_number(b"line ", c.line);
-    put(b": ");
-    put(reason);
-    put(b"\n");
+    put_number(c.out, b"line ", c.line);
+    put(c.out, b": ");
+    put(c.out, reason);
+    put(c.out, b"\n");
     let mut d = c;
     d.stopped = true;
     d
@@ -89,13 +92,13 @@ pub fn right(c: Case) -> Case {
 
 // A figure of the answer, or an element of a part, differs.
 fn wrong(c: Case, what: &[u8], i: usize, expected: u64, answered: u64) -> Case {
-    put_number(b"line ", c.line);
-    put(b":");
-    put(what);
-    put_number(b" at ", i as u64);
-    put_number(b": expected ", expected);
-    put_number(b", answered ", answered);
-    put(b"\n");
+    put_number(c.out, b"line ", c.line);
+    put(c.out, b":");
+    put(c.out, what);
+    put_number(c.out, b" at ", i as u64);
+    put_number(c.out, b": expected ", expected);
+    put_number(c.out, b", answered ", answered);
+    put(c.out, b"\n");
     let mut d = right(c);
     d.wrong = std::num::wrapping_add_u64(c.wrong, 1);
     d
@@ -113,14 +116,14 @@ pub fn wrong_part(c: Case, part: usize, i: usize, expected: u64, answered: u64) 
     wrong(c, &names[a..e], i, expected, answered)
 }
 
-fn put_name(text: &[u8], from: usize, to: usize) {
+fn put_name(out: Stdout, text: &[u8], from: usize, to: usize) {
     if text.len() < to {
         return;
     }
     if to < from {
         return;
     }
-    put(&text[from..to]);
+    put(out, &text[from..to]);
 }
 
 // The group ends: its line is printed. There is none where no group was begun and no case was met.
@@ -128,10 +131,10 @@ pub fn end_group(text: &[u8], c: Case) -> Case {
     if (c.name_end == 0) & (c.cases == 0) {
         return c;
     }
-    put_name(text, c.name, c.name_end);
-    put_number(b": ", c.cases);
-    put_number(b" cases, ", c.wrong);
-    put(b" wrong\n");
+    put_name(c.out, text, c.name, c.name_end);
+    put_number(c.out, b": ", c.cases);
+    put_number(c.out, b" cases, ", c.wrong);
+    put(c.out, b" wrong\n");
     let mut d = c;
     d.all_cases = std::num::wrapping_add_u64(c.all_cases, c.cases);
     d.all_wrong = std::num::wrapping_add_u64(c.all_wrong, c.wrong);
@@ -143,9 +146,10 @@ pub fn end_group(text: &[u8], c: Case) -> Case {
 // The last line.
 pub fn total(c: Case) {
     put_number(
+        c.out,
         b"cases: ",
         std::num::wrapping_sub_u64(c.all_cases, c.all_wrong),
     );
-    put_number(b" ok, ", c.all_wrong);
-    put(b" wrong\n");
+    put_number(c.out, b" ok, ", c.all_wrong);
+    put(c.out, b" wrong\n");
 }

@@ -1,5 +1,5 @@
 // Replays the trace file on standard input, and prints its lines on standard output (document 01, 'Trace program'; document
-// 02, Asks 1 and 5). A program has no exit status of its own: what cannot be read or written is said on standard error.
+// 02, Asks 1 and 5). What cannot be read or written is said on standard error, and the exit status is 0 then too.
 #![tactic(auto)]
 
 ghost use Rattle.std.specs.Prelude.{◌≡◌, ◌≤◌, length, take};
@@ -8,7 +8,8 @@ ghost use Rattle.replay.specs.Replay.{page_room};
 ghost use Rattle.trace.specs.Trace.{printed_for};
 
 use input::Input;
-use libc::{STDIN_FILENO, STDOUT_FILENO};
+use std::io;
+use std::io::{Cursor, Write};
 
 // The buffer for the text has one byte more than the longest file, so that a longer one is seen to be longer.
 const TEXT: usize = 65537;
@@ -26,15 +27,34 @@ fn page_buffer() -> [u8; replay::PAGE]
     [0u8; replay::PAGE]
 }
 
+// The system's words of an error, without the number that stands behind them.
+fn system_words(text: &str) -> &str {
+    match text.split_once(" (os error ") {
+        Some((words, _)) => words,
+        None => text,
+    }
+}
+
+// Writes a line to standard error: what failed, a colon and why, in the system's words.
+fn fail(rt: &impl Eprint, what: &str, error: io::Error) {
+    let mut said = Cursor::new([0u8; 256]);
+    let _ = write!(said, "{error}");
+    let end = said.position().min(256) as usize;
+    let bytes = said.into_inner();
+    let text = std::str::from_utf8(&bytes[..end]).unwrap_or("");
+    let words = system_words(text);
+    let _ = eprintln!(rt; "{what}: {words}");
+}
+
 // Prints on the page, and returns how many bytes were printed. Says why where a read failed.
-fn put_lines(got: Input, text: &[u8], page: &mut [u8]) -> usize
+fn put_lines(rt: &impl Eprint, got: Input, text: &[u8], page: &mut [u8]) -> usize
     requires { (bytes_read got ≤ length text.now) × (page_room ≤ length page.old) }
     ensures short { result ≤ length page.new }
     ensures printed { take result page.new ≡ printed_for got text.now }
 {
     match got {
-        Input::Failed => {
-            os::fail(b"trace: standard input");
+        Input::Failed(error) => {
+            fail(rt, "trace: standard input", error);
             replay::put_refused(page)
         }
         Input::Read(count) => replay::replay(&text[..count], page),
@@ -42,16 +62,17 @@ fn put_lines(got: Input, text: &[u8], page: &mut [u8]) -> usize
 }
 
 // Writes the page out. Says why where a write failed.
-fn write_out(page: &[u8]) {
-    if !io::write_all(STDOUT_FILENO, page) {
-        os::fail(b"trace: standard output");
+fn write_out(rt: &(impl Print + Eprint), page: &[u8]) {
+    if let Err(error) = rt.write_all(page) {
+        fail(rt, "trace: standard output", error);
     }
 }
 
-fn main() {
+fn main(rt: HostRuntime) {
     let mut text = text_buffer();
-    let got = input::read_all(STDIN_FILENO, &mut text);
+    let mut stdin = rt.stdin();
+    let got = input::read_all(&mut stdin, &mut text);
     let mut page = page_buffer();
-    let printed = put_lines(got, &text, &mut page);
-    write_out(&page[..printed]);
+    let printed = put_lines(&rt, got, &text, &mut page);
+    write_out(&rt, &page[..printed]);
 }

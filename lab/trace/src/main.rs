@@ -1,5 +1,5 @@
 //! Compares the trace program with a second interpreter of trace files, written from documents 01 and 02. Arguments: the
-//! program (target/bin/trace if none is given), then a seed. `--interpret` in place of the program makes this one the
+//! program (crates/trace/out/trace if none is given), then a seed. `--interpret` in place of the program makes this one the
 //! interpreter, from standard input to standard output; `--self` compares it with itself through a process. With both a
 //! fault may be named after them, to see it found.
 
@@ -188,7 +188,7 @@ fn interpret_input(flaw: Option<String>) -> Result<(), String> {
 
 fn start() -> Result<(), String> {
     let mut arguments = std::env::args_os().skip(1);
-    let path = arguments.next().unwrap_or("target/bin/trace".into());
+    let path = arguments.next().unwrap_or("crates/trace/out/trace".into());
     let second = arguments.next().map(|argument| argument.to_string_lossy().into_owned());
     if path == "--interpret" {
         return interpret_input(second);
