@@ -8,7 +8,7 @@ ghost use Rattle.std.specs.Prelude.{◌≡◌, ◌<◌};
 ghost use Rattle.banks.specs.Banks.{most_banks, with_bank};
 ghost use Rattle.geometry.specs.Entry.{empty};
 ghost use Rattle.tracking.specs.Entry.{table_after};
-ghost use Rattle.engine.specs.State.{entering, leaving, storage_of, storage_entering, storage_leaving};
+ghost use Rattle.engine.specs.State.{state_of, storage_of};
 ghost use Rattle.engine.specs.Steps.{move_into, relocated};
 ghost use Rattle.settle.specs.Settling.{Movable};
 ghost use Rattle.figures.specs.Promises.{ReadPromise, WritePromise};
@@ -106,8 +106,8 @@ fn go(
     requires movable { Movable s f v (storage_of store.old forward.old reverse.old ring) }
     ensures answer { result ≡ done_of result.ring f v.d.0 v.held.0 }
     ensures storage { let move = move_into v.d.0 v.held.0 in
-        let before = storage_entering store forward reverse ring in
-        storage_leaving store forward reverse result.ring ≡ relocated s f.row.0 f.place.0 move before }
+        let before = storage_of store.old forward.old reverse.old ring in
+        storage_of store.new forward.new reverse.new result.ring ≡ relocated s f.row.0 f.place.0 move before }
     ensures rows { let u = f.update in
         rows.new ≡ table_after u.entry u.estimate f.place.0 rows.old }
     ensures counts { let u = f.update in
@@ -133,8 +133,9 @@ pub fn read(
     counts: &mut [u32],
 ) -> Answered
     ensures bank { result.bank.index < most_banks }
-    ensures promise { let before = entering store forward reverse rows counts control in
-        let after = leaving store forward reverse rows counts (with_bank control result.ring result.bank) in
+    ensures promise { let before = state_of store.old forward.old reverse.old rows.old counts.old control in
+        let control_after = with_bank control result.ring result.bank in
+        let after = state_of store.new forward.new reverse.new rows.new counts.new control_after in
         ReadPromise s before row buffer.old after result.outcome buffer.new }
 {
     let ring = Ring {
@@ -198,8 +199,9 @@ pub fn write(
     counts: &mut [u32],
 ) -> Answered
     ensures bank { result.bank.index < most_banks }
-    ensures promise { let before = entering store forward reverse rows counts control in
-        let after = leaving store forward reverse rows counts (with_bank control result.ring result.bank) in
+    ensures promise { let before = state_of store.old forward.old reverse.old rows.old counts.old control in
+        let control_after = with_bank control result.ring result.bank in
+        let after = state_of store.new forward.new reverse.new rows.new counts.new control_after in
         WritePromise s before row column bytes.now after result.outcome }
 {
     let ring = Ring {
