@@ -5,7 +5,7 @@
 // `access` instead. The two sizing sums, which need no record, stand in `sums`.
 #![tactic(auto)]
 
-ghost use Rattle.engine.specs.State.{entering, leaving};
+ghost use Rattle.engine.specs.State.{state_of, entering};
 ghost use Rattle.figures.specs.Promises.{SetUpPromise, ReadPromise, WritePromise, TickPromise};
 ghost use Rattle.figures.specs.Promises.{InspectNumberPromise, InspectSpanPromise, InspectPartPromise};
 
@@ -25,8 +25,8 @@ pub extern "C" fn aqua_set_up(
     rows: &mut [u16],
     counts: &mut [u32],
 ) -> u32
-    ensures { let before = entering store forward reverse rows counts control.old in
-        let after = leaving store forward reverse rows counts control.new in
+    ensures { let before = state_of store.now forward.old reverse.old rows.old counts.old control.old in
+        let after = state_of store.now forward.new reverse.new rows.new counts.new control.new in
         SetUpPromise s before after result }
 {
     let t = epoch::set_up(*control, s, store, forward, reverse, rows, counts);
@@ -48,8 +48,8 @@ pub extern "C" fn aqua_read(
     rows: &mut [u16],
     counts: &mut [u32],
 ) -> Outcome
-    ensures { let before = entering store forward reverse rows counts control.old in
-        let after = leaving store forward reverse rows counts control.new in
+    ensures { let before = state_of store.old forward.old reverse.old rows.old counts.old control.old in
+        let after = state_of store.new forward.new reverse.new rows.new counts.new control.new in
         ReadPromise s before row buffer.old after result buffer.new }
 {
     let t = access::read(
@@ -76,8 +76,8 @@ pub extern "C" fn aqua_write(
     rows: &mut [u16],
     counts: &mut [u32],
 ) -> Outcome
-    ensures { let before = entering store forward reverse rows counts control.old in
-        let after = leaving store forward reverse rows counts control.new in
+    ensures { let before = state_of store.old forward.old reverse.old rows.old counts.old control.old in
+        let after = state_of store.new forward.new reverse.new rows.new counts.new control.new in
         WritePromise s before row column bytes.now after result }
 {
     let t = access::write(
@@ -101,8 +101,8 @@ pub extern "C" fn aqua_tick(
     rows: &mut [u16],
     counts: &mut [u32],
 ) -> u32
-    ensures { let before = entering store forward reverse rows counts control.old in
-        let after = leaving store forward reverse rows counts control.new in
+    ensures { let before = state_of store.now forward.now reverse.now rows.old counts.old control.old in
+        let after = state_of store.now forward.now reverse.now rows.new counts.new control.new in
         TickPromise s before after result }
 {
     let t = epoch::tick(*control, s, store, forward, reverse, rows, counts);
