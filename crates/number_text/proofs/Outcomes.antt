@@ -129,6 +129,9 @@ module _ (was : List ℕ) (s : Scan) where
   pub past-refused : (b : ℕ) → ((rest : List ℕ) → outcome was s (b ∷ rest) ≡ none) → Past b was s was refused
   past-refused b h = record { within = zero-le; same = λ rest. not_good was refused rest refl ∙ sym (h rest) }
 
+  pub past_too_large : (b : ℕ) → is_digit b ≡ true → 4294967295 < appended (pending s) b → Past b was s was refused
+  past_too_large b d h = past-refused b (λ rest. too_large was s rest b d h)
+
   -- the text is read, and a blank after it: i is its length or more
   pub past-text : (text : List ℕ) (i : ℕ) (list : List ℕ) (r : Scan) → length text ≤ i → Past 32 was s list r → outcome was s (drop i text) ≡ outcome list r []
   past-text text i list r h p = rw (drop_of_length-le text h) (sym (p.same [] ∙ last-blank was s))

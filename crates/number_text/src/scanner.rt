@@ -74,6 +74,7 @@ pub fn is_gap(b: u8) -> bool
 }
 
 // The byte b is read.
+#[tactic(auto, using(crate::proofs::Outcomes::past_too_large))]
 pub fn eat(list: &mut [u32], s: Scan, b: u8) -> Scan
     requires { s.count ≤ length list.old }
     ensures { Past b list.old s list.new result }

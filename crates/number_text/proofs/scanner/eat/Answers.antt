@@ -1,13 +1,7 @@
 -- One law of `outcome` for each return.
-use Rattle.std.proofs.Common.{arith, sym, ◌∙◌}
-use Rattle.number_text.proofs.Outcomes.{digit-read, too_large, gap-read, byte-refused, past-refused}
+use Rattle.std.proofs.Common.{sym, ◌∙◌}
+use Rattle.number_text.proofs.Outcomes.{digit-read, gap-read, byte-refused, past-refused}
 use Rattle.number_text.proofs.scanner.eat.Goals as goal
-
-pub returns-then-value-gt4294967295 : goal.returns-then-value-gt4294967295
-returns-then-value-gt4294967295 c =
-    let a = c.args in
-    past-refused a.list.now a.s a.b
-    (λ rest. too_large a.list.now a.s rest a.b c.if-b.true (omega (arith, c.append-value.ensures)))
 
 pub returns-then-b : goal.returns-then-b
 returns-then-b c =
