@@ -2,7 +2,7 @@
 #![tactic(auto)]
 
 ghost use Rattle.std.specs.Prelude.{◌≡◌, ◌*◌, ◌≤◌, length, take, replicate};
-ghost use Rattle.engine.specs.State.{entering, leaving, new_control};
+ghost use Rattle.engine.specs.State.{state_of, new_control};
 ghost use Rattle.trace_steps.specs.Steps.{widest, line_room, stepped_of, stepped, run_lines};
 
 use geometry::{Control, Settings};
@@ -40,8 +40,8 @@ fn step(
     counts: &mut [u32],
 ) -> Stepped
     requires { s.w ≤ widest }
-    ensures { let before = entering store forward reverse rows counts control in
-        let after = leaving store forward reverse rows counts result.control in
+    ensures { let before = state_of store.old forward.old reverse.old rows.old counts.old control in
+        let after = state_of store.new forward.new reverse.new rows.new counts.new result.control in
         stepped_of after result.line ≡ stepped s before x }
 {
     if x == TICK {
@@ -86,7 +86,7 @@ pub fn run(
 ) -> usize
     requires { (s.w ≤ widest) × (line_room * length steps.now ≤ length page.old) }
     ensures short { result ≤ length page.old }
-    ensures printed { let lent = entering store forward reverse rows counts new_control in
+    ensures printed { let lent = state_of store.old forward.old reverse.old rows.old counts.old new_control in
         take result page.new ≡ run_lines s lent steps.now }
 {
     let new = epoch::set_up(geometry::NEW, s, store, forward, reverse, rows, counts);
