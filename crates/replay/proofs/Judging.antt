@@ -47,6 +47,9 @@ module _ (S : Settings) where
     unfolding played
     settings-refused {number} e h shown = rw (shown, ← e, ne_eqb number 0 h) refl
 
+    pub played_refused : settings_number S ≢ 0 → played S steps ≡ line_bytes 0 (bare (settings_number S))
+    played_refused h = sym (settings-refused refl h refl)
+
     pub memory-refused : settings_number S ≡ 0 → memory_fits S ≡ false → refused_line ≡ played S steps
     unfolding played
     memory-refused e h = rw (e, h) refl

@@ -38,6 +38,7 @@ pub fn put_refused(page: &mut [u8]) -> usize
 
 // Plays a trace: its settings are judged, then the store's size and the number of tracker entries, and then every step is
 // made.
+#[tactic(auto, using(crate::proofs::Judging::played_refused))]
 fn play(s: Settings, steps: &[u32], page: &mut [u8]) -> usize
     requires { line_room + line_room * length steps.now ≤ length page.old }
     ensures short { result ≤ length page.old }
