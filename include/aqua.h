@@ -1,6 +1,6 @@
 /* AQUA row quarantine engine, one rank: the calls for firmware in C.
  *
- * Link crates/rank/out/librank.a, which `rt lib --cpu=x86-64` in crates/rank proves and writes. It is for x86-64 and needs memcpy and
+ * Link target/staticlib/librank.a, which bin/staticlib proves and writes. It is for x86-64 and needs memcpy and
  * memset of the C library. A read or a write needs at most 6,400 bytes of stack, its arguments and its return address
  * included, and every other call at most 768, where memcpy and memset are those of glibc; this is measured (lab/c/stack.c)
  * and not proved. Every call takes any argument and answers by a number, 0 where it is accepted. A call that is refused

@@ -1,5 +1,5 @@
-// The face of the engine: thin entry functions over a control record that the caller lends, exported to C (see
-// include/aqua.h). They answer for any settings, arguments and lent memory; a refusal leaves everything as it was.
+// The face of the engine: thin entry functions over a control record that the caller lends; crate `rank_c` exports them to C
+// (see include/aqua.h). They answer for any settings, arguments and lent memory; a refusal leaves everything as it was.
 // What each promises is one definition of crate `figures` (specs/Promises.antt); the theorem about them (crate `served`)
 // supposes these and nothing else. Rattle code may hold the record by value and call the crates `epoch`, `look` and
 // `access` instead. The two sizing sums, which need no record, stand in `sums`.
@@ -11,12 +11,12 @@ ghost use Rattle.figures.specs.Promises.{InspectNumberPromise, InspectSpanPromis
 
 use figures::{Outcome, Span};
 use geometry::{Control, Settings};
+pub use sums::{aqua_least_size, aqua_most_activations};
 
 mod sums;
 
 // Begins a new history, and returns the number.
-#[unsafe(no_mangle)]
-pub extern "C" fn aqua_set_up(
+pub fn aqua_set_up(
     control: &mut Control,
     s: Settings,
     store: &[u8],
@@ -36,8 +36,7 @@ pub extern "C" fn aqua_set_up(
 
 // Reads a row: returns the answer in numbers, and fills the buffer where the number is 0. Of the record it stores what the
 // access changes: to copy the whole back was a tenth of an access.
-#[unsafe(no_mangle)]
-pub extern "C" fn aqua_read(
+pub fn aqua_read(
     control: &mut Control,
     s: Settings,
     row: u32,
@@ -63,8 +62,7 @@ pub extern "C" fn aqua_read(
 }
 
 // Writes bytes into a row from a column on, and returns the answer in numbers. The record is dealt with as in `aqua_read`.
-#[unsafe(no_mangle)]
-pub extern "C" fn aqua_write(
+pub fn aqua_write(
     control: &mut Control,
     s: Settings,
     row: u32,
@@ -91,8 +89,7 @@ pub extern "C" fn aqua_write(
 }
 
 // Ends the epoch, and returns the number.
-#[unsafe(no_mangle)]
-pub extern "C" fn aqua_tick(
+pub fn aqua_tick(
     control: &mut Control,
     s: Settings,
     store: &[u8],
@@ -111,8 +108,7 @@ pub extern "C" fn aqua_tick(
 }
 
 // Inspect, by its first call: returns the number.
-#[unsafe(no_mangle)]
-pub extern "C" fn aqua_inspect_number(
+pub fn aqua_inspect_number(
     control: &Control,
     s: Settings,
     row: u32,
@@ -146,8 +142,7 @@ pub fn inspect_part<'a>(
 }
 
 // Inspect, by its second call, for C: returns where that part lies, and 0 and 0 where the number is not 0.
-#[unsafe(no_mangle)]
-pub extern "C" fn aqua_inspect_span(
+pub fn aqua_inspect_span(
     control: &Control,
     s: Settings,
     row: u32,

@@ -1,4 +1,4 @@
-// The two sizing sums, exported to C.
+// The two sizing sums.
 ghost use Rattle.std.specs.Prelude.{◌≡◌};
 ghost use Rattle.sizing.specs.declared.SizeTimes.{SizeTimes as SizeTimes-of};
 ghost use Rattle.sizing.specs.declared.RefreshTimes.{RefreshTimes as RefreshTimes-of};
@@ -9,14 +9,7 @@ use figures::Sum;
 use sizing::{RefreshTimes, SizeTimes};
 
 // Returns the least quarantine size, in slots; times are in nanoseconds.
-#[unsafe(no_mangle)]
-pub extern "C" fn aqua_least_size(
-    trefw: u64,
-    trc: u64,
-    tmov: u64,
-    banks: u64,
-    threshold: u64,
-) -> Sum
+pub fn aqua_least_size(trefw: u64, trc: u64, tmov: u64, banks: u64, threshold: u64) -> Sum
     ensures { let times : SizeTimes-of =
         record { trefw = trefw; trc = trc; tmov = tmov; banks = banks; threshold = threshold } in
         result ≡ sum_of (least_size times) }
@@ -31,8 +24,7 @@ pub extern "C" fn aqua_least_size(
 }
 
 // Returns the most activations of a bank in a refresh window; times are in nanoseconds.
-#[unsafe(no_mangle)]
-pub extern "C" fn aqua_most_activations(trefw: u64, trc: u64, trefi: u64, trfc: u64) -> Sum
+pub fn aqua_most_activations(trefw: u64, trc: u64, trefi: u64, trfc: u64) -> Sum
     ensures { let times : RefreshTimes-of = record { trefw = trefw; trc = trc; trefi = trefi; trfc = trfc } in
         result ≡ sum_of (most_activations times) }
 {
