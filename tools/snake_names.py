@@ -6,6 +6,8 @@ usage: python3 tools/snake_names.py [ROOT]
 - A word in lower camel case becomes snake case: `slotRowOf` -> `slot_row_of`, `length-rowBytes` -> `length-row_bytes`.
 - In the name of a lemma, words that together are the name of a function or a definition are joined as that name is
   spelled: `set-up-zeros` -> `set_up-zeros`.
+- A dash stays where it joins the names of two functions, definitions or types: `length-row_bytes`. Elsewhere, and in the name
+  of a field, it becomes `_`: `counts-long` -> `counts_long`, `set_up-served` -> `set_up_served`.
 Types, modules, names of src/ and exported names keep their spelling. Names that would fall together are printed, and left.
 """
 import glob
@@ -18,6 +20,8 @@ NAME = r"[^\s(){}\[\],;.:→λ≡'\"`]+"
 DECLARED = re.compile(r"(?m)^\s*(?:(?:abbrev|unfoldable|opaque|pub|data|record)\s+)*(" + NAME + r"'*) :(?= |$)")
 # names for which the rule gives one that is taken, each with its own
 BY_HAND = {"entryIn": "entry_found", "skips_before": "skips_there", "skipsBefore": "skips_before", "endOfText": "end_of_text"}
+# functions of the library that names of lemmas are made of
+LIBRARY = {"append", "drop", "get_or", "length", "map", "portion", "put", "quot", "replicate", "set", "sum", "take"}
 TOKEN = re.compile(r"[A-Za-z_][A-Za-z0-9_'-]*")
 
 
@@ -70,6 +74,24 @@ def main():
         if new != name:
             turn[name] = new
     turn.update(BY_HAND)
+    defined = of_source | LIBRARY
+    fields = set()
+    for p, t in texts.items():
+        if re.search(r"/specs/[A-Z]\w*\.antt$", p):
+            defined |= {turn.get(n, n) for n in re.findall(r"(?m)^(?:abbrev|unfoldable) pub (" + NAME + ") :(?= |$)", t)}
+        if re.search(r"/(specs|proofs)/[A-Z]\w*\.antt$", p):
+            for body in re.findall(r"(?m)^( *)(?:pub )?record [^\n]*where\n((?:\1  [^\n]*\n|\1 *--[^\n]*\n)+)", t):
+                fields |= set(re.findall(r"(?m)^" + body[0] + r"  (?:pub )?(" + NAME + ") :(?= |$)", body[1]))
+    given = used | declared | set(turn.values())
+    for name in sorted(shared):
+        parts = turn.get(name, name).split("-")
+        new = parts[0]
+        for left, right in zip(parts, parts[1:]):
+            joins = all(x in defined or re.match(r"[A-Z]", x) for x in (left, right))
+            new += ("-" if joins and name not in fields else "_") + right
+        if new != turn.get(name, name) and new not in given:
+            turn[name] = new
+            given.add(new)
     taken = {}
     for name, new in sorted(turn.items()):
         taken.setdefault(new, []).append(name)

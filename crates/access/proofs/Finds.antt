@@ -16,12 +16,12 @@ use Rattle.geometry.specs.Place.{place_by}
 use Rattle.basics.proofs.Cases.{lt?}
 use Rattle.banks.specs.declared.Bank.{Bank}
 use Rattle.banks.specs.Banks.{most_banks, bank_of, bank_with}
-use Rattle.basics.proofs.Portions.{portion-fits}
-use Rattle.banks.proofs.Banks.{bank-in}
+use Rattle.basics.proofs.Portions.{portion_fits}
+use Rattle.banks.proofs.Banks.{bank_in}
 use Rattle.tracking.specs.Track.{is_due}
-use Rattle.tracking.proofs.Due.{due-some}
+use Rattle.tracking.proofs.Due.{due_some}
 use Rattle.tracking.specs.Entry.{table_after, spill_after}
-use Rattle.tracking.proofs.Banks.{entry_in-bank, estimate-in, spill-in, rows_in, counts-in}
+use Rattle.tracking.proofs.Banks.{entry_in_bank, estimate-in, spill_in, rows_in, counts_in}
 use Rattle.tracker.specs.declared.Update.{Update}
 use Rattle.tracker.specs.Finding.{entry_for, update_of, Findable, Countable}
 use Rattle.tracker.proofs.Counts.{countable}
@@ -30,12 +30,12 @@ use Rattle.engine.specs.State.{State, ring_of, forward_of}
 use Rattle.engine.specs.Steps.{place, tracked, counted, moves, skipped}
 use Rattle.engine.specs.Ladder.{row_unsound, row_number, tick_number}
 use Rattle.engine.proofs.Rungs.{pass}
-use Rattle.engine.proofs.Facts.{row-facts, place-below}
+use Rattle.engine.proofs.Facts.{row_facts, place_below}
 use Rattle.seek.proofs.Before.{skipped-before}
 use Rattle.ladder.proofs.Stages.{Checked, checked}
 use Rattle.verdict.specs.declared.Found.{Found}
 use Rattle.verdict.specs.Verdicts.{skipped_for, Decidable}
-use Rattle.verdict.proofs.Judged.{access-8}
+use Rattle.verdict.proofs.Judged.{access_8}
 use Rattle.access.specs.Answers.{Servable}
 use Rattle.access.proofs.Refuses.{Stops, Passed}
 
@@ -68,54 +68,54 @@ module _ {S : Settings} {σ : State} {a : Asked} (P : Passed S σ a) where
   f = found_of S σ r
 
   past : (tick_number S σ ≡ 0) × (row_number S σ.tables a ≡ 0)
-  past = pass _ _ P.early-0
+  past = pass _ _ P.early_0
 
   pub fits : Checked S σ
   fits = checked S σ past.0
 
   row-holds : (r < S.n) × (a.off ≡ false) × (row_unsound S σ.tables r ≡ false)
-  row-holds = row-facts S σ.tables a past.1
+  row-holds = row_facts S σ.tables a past.1
 
   pub row_small : r < 60000
-  row_small = omega (arith, row-holds.0, fits.ranges.n-high)
+  row_small = omega (arith, row-holds.0, fits.ranges.n_high)
 
-  place-small : p < 65536
-  place-small =
-      omega (arith, place-below S σ r fits.ranges row-holds.0 row-holds.2, fits.ranges.n-high, fits.ranges.q-high)
+  place_small : p < 65536
+  place_small =
+      omega (arith, place_below S σ r fits.ranges row-holds.0 row-holds.2, fits.ranges.n_high, fits.ranges.q_high)
 
-  c-in : c < S.b
-  c-in = bank-in S p fits.ranges.b-low
+  c_in : c < S.b
+  c_in = bank_in S p fits.ranges.b_low
 
-  pub bank-small : c < most_banks
-  bank-small = omega (arith, c-in, fits.ranges.b-high)
+  pub bank_small : c < most_banks
+  bank_small = omega (arith, c_in, fits.ranges.b_high)
 
-  rows-room : c * S.k + S.k ≤ length σ.rows
-  rows-room = portion-fits S.k S.b c (length σ.rows) fits.lengths.rows c-in
+  rows_room : c * S.k + S.k ≤ length σ.rows
+  rows_room = portion_fits S.k S.b c (length σ.rows) fits.lengths.rows c_in
 
-  counts-room : c * S.k + S.k ≤ length σ.counts
-  counts-room = portion-fits S.k S.b c (length σ.counts) fits.lengths.counts c-in
+  counts_room : c * S.k + S.k ≤ length σ.counts
+  counts_room = portion_fits S.k S.b c (length σ.counts) fits.lengths.counts c_in
 
   -- ---- step 2
 
-  pub estimate-is : f.update.estimate ≡ (tracked S σ r).estimate
-  estimate-is = estimate-in S.k c σ.rows σ.counts rows-room counts-room p f.bank.spill
+  pub estimate_is : f.update.estimate ≡ (tracked S σ r).estimate
+  estimate_is = estimate-in S.k c σ.rows σ.counts rows_room counts_room p f.bank.spill
 
   -- what is due
-  pub due-is : is_due S.a f.update.estimate ≡ moves S σ r
-  due-is = ap (is_due S.a) estimate-is
+  pub due_is : is_due S.a f.update.estimate ≡ moves S σ r
+  due_is = ap (is_due S.a) estimate_is
 
   -- what following it leaves
-  pub spill-then : spill_after f.update.estimate f.bank.spill ≡ (tracked S σ r).spill
-  spill-then = spill-in S.k c σ.rows σ.counts rows-room counts-room p f.bank.spill
+  pub spill_then : spill_after f.update.estimate f.bank.spill ≡ (tracked S σ r).spill
+  spill_then = spill_in S.k c σ.rows σ.counts rows_room counts_room p f.bank.spill
 
   pub rows_then : table_after f.update.entry f.update.estimate p σ.rows ≡ (counted S σ r).rows
-  rows_then = rows_in S.k c σ.rows σ.counts rows-room counts-room p f.bank.spill
+  rows_then = rows_in S.k c σ.rows σ.counts rows_room counts_room p f.bank.spill
 
-  pub counts-then : table_after f.update.entry f.update.estimate f.update.estimate σ.counts ≡ (counted S σ r).counts
-  counts-then = counts-in S.k c σ.rows σ.counts rows-room counts-room p f.bank.spill
+  pub counts_then : table_after f.update.entry f.update.estimate f.update.estimate σ.counts ≡ (counted S σ r).counts
+  counts_then = counts_in S.k c σ.rows σ.counts rows_room counts_room p f.bank.spill
 
-  entry-inside : f.update.estimate ≢ 0 → f.update.entry < c * S.k + S.k
-  entry-inside = entry_in-bank S.k c σ.rows σ.counts rows-room counts-room p f.bank.spill
+  entry_inside : f.update.estimate ≢ 0 → f.update.entry < c * S.k + S.k
+  entry_inside = entry_in_bank S.k c σ.rows σ.counts rows_room counts_room p f.bank.spill
 
 -- ---- the place and its bank, as the code has them
 
@@ -132,10 +132,10 @@ module _ {S : Settings} {σ : State} {a : Asked} (P : Passed S σ a) {e : Forwar
 
   -- what `bank_at` asks
   pub bankable : (1 ≤ S.b) × (S.b ≤ most_banks) × (p.0 < 65536)
-  bankable = ((fits P).ranges.b-low, (fits P).ranges.b-high, rw place_is (place-small P))
+  bankable = ((fits P).ranges.b_low, (fits P).ranges.b_high, rw place_is (place_small P))
 
-  pub bank-found : {bank : Bank} → bank ≡ bank_with σ.control (bank_of S p.0) → Banked S σ a e p bank
-  bank-found banked =
+  pub bank_found : {bank : Bank} → bank ≡ bank_with σ.control (bank_of S p.0) → Banked S σ a e p bank
+  bank_found banked =
       record {
         passed = P;
         entered = ap (λ (x : ℕ). forward_entry_of (slot x)) entered;
@@ -162,20 +162,20 @@ module _ {S : Settings} {σ : State} {a : Asked} {e : ForwardEntry} {p : Physica
   findable =
       let P = B.passed in
       rw (B.placed, B.banked)
-      (record { place-small = place-small P; in_rows = rows-room P; in-counts = counts-room P; counts-small = (fits P).counts _ (c-in P) })
+      (record { place_small = place_small P; in_rows = rows_room P; in_counts = counts_room P; counts_small = (fits P).counts _ (c_in P) })
 
   -- what `update_of` asks; i: the entry of step 2, as the code has it
-  pub countable-there : {i : ℕ} → i ≡ entry_for S.k bank p.0 σ.rows σ.counts → Countable i S.k bank σ.counts
-  countable-there found = countable findable found
+  pub countable_there : {i : ℕ} → i ≡ entry_for S.k bank p.0 σ.rows σ.counts → Countable i S.k bank σ.counts
+  countable_there found = countable findable found
 
   -- full: whether 8 applies, as the code has it
   module _ {full : Bool} (told : full ≡ eqb bank.acts S.l) where
-    acts-are : (found_of S σ a.row).bank.acts ≡ bank.acts
-    acts-are = sym (ap (λ (b : Bank). b.acts) B.banked)
+    acts_are : (found_of S σ a.row).bank.acts ≡ bank.acts
+    acts_are = sym (ap (λ (b : Bank). b.acts) B.banked)
 
-    pub full-stops : full ≡ true → Stops S σ a 8
-    full-stops met =
-        record { is = access-8 S σ a B.passed.early-0 (acts-are ∙ eqb-true _ _ (sym told ∙ met)); some = λ z. omega arith }
+    pub full_stops : full ≡ true → Stops S σ a 8
+    full_stops met =
+        record { is = access_8 S σ a B.passed.early_0 (acts_are ∙ eqb-true _ _ (sym told ∙ met)); some = λ z. omega arith }
 
     -- u: what step 2 changes, as the code has it
     pub all_found : full ≡ false → {i : ℕ} → i ≡ entry_for S.k bank p.0 σ.rows σ.counts
@@ -184,7 +184,7 @@ module _ {S : Settings} {σ : State} {a : Asked} {e : ForwardEntry} {p : Physica
         record {
           passed = B.passed;
           found = rw (updated, found, B.banked, B.placed, B.entered);
-          more = λ z. eqb-false _ _ (sym told ∙ less) (sym acts-are ∙ z);
+          more = λ z. eqb-false _ _ (sym told ∙ less) (sym acts_are ∙ z);
         }
 
 module _ {S : Settings} {σ : State} {a : Asked} {f : Found} (K : Sought S σ a f) where
@@ -192,25 +192,25 @@ module _ {S : Settings} {σ : State} {a : Asked} {f : Found} (K : Sought S σ a 
   there = found_of S σ a.row
 
   -- what `is_due` asks
-  pub due-able : 1 ≤ S.a
-  due-able = (fits K.passed).ranges.a-low
+  pub due_able : 1 ≤ S.a
+  due_able = (fits K.passed).ranges.a_low
 
   -- what comes after the bytes asks
   pub servable : Servable f σ.rows σ.counts
   servable =
       let P = K.passed in
-      let T = (fits P).steady.banks _ (c-in P) in
+      let T = (fits P).steady.banks _ (c_in P) in
       rw K.found
       (record {
         followable = record {
-          place-small = place-small P;
-          in_rows = λ n. omega (arith, entry-inside P n, rows-room P);
-          in-counts = λ n. omega (arith, entry-inside P n, counts-room P);
+          place_small = place_small P;
+          in_rows = λ n. omega (arith, entry_inside P n, rows_room P);
+          in_counts = λ n. omega (arith, entry_inside P n, counts_room P);
         };
-        spill-small = omega (arith, T.spill-below, (fits P).ranges.a-high);
-        acts-small = elim (lt? there.bank.acts S.l) [
-          | inl h ↦ omega (arith, h, (fits P).ranges.l-high)
-          | inr h ↦ absurd (K.more (omega (arith, h, T.acts-in)))
+        spill_small = omega (arith, T.spill_below, (fits P).ranges.a_high);
+        acts_small = elim (lt? there.bank.acts S.l) [
+          | inl h ↦ omega (arith, h, (fits P).ranges.l_high)
+          | inr h ↦ absurd (K.more (omega (arith, h, T.acts_in)))
         ];
       })
 
@@ -220,10 +220,10 @@ module _ {S : Settings} {σ : State} {a : Asked} {f : Found} (K : Sought S σ a 
     is-due = sym (ap (λ (x : Found). is_due S.a x.update.estimate) K.found) ∙ sym told
 
     pub rests : due ≡ false → moves S σ a.row ≡ false
-    rests not_so = sym (due-is K.passed) ∙ is-due ∙ not_so
+    rests not_so = sym (due_is K.passed) ∙ is-due ∙ not_so
 
-    pub falls-due : due ≡ true → Due S σ a f
-    falls-due so = record { sought = K; due = is-due ∙ so }
+    pub falls_due : due ≡ true → Due S σ a f
+    falls_due so = record { sought = K; due = is-due ∙ so }
 
 -- ---- the row is to be quarantined
 
@@ -232,7 +232,7 @@ module _ {S : Settings} {σ : State} {a : Asked} {f : Found} (D : Due S σ a f) 
   P = D.sought.passed
 
   pub goes : moves S σ a.row ≡ true
-  goes = sym (due-is P) ∙ D.due
+  goes = sym (due_is P) ∙ D.due
 
   -- what `decide` asks
   pub decidable : Decidable S (ring_of σ.control) f σ.tables.forward σ.tables.reverse σ.rows σ.counts
@@ -242,23 +242,23 @@ module _ {S : Settings} {σ : State} {a : Asked} {f : Found} (D : Due S σ a f) 
       rw D.sought.found
       (record {
         seekable = record {
-          slots-few = R.q-high;
-          rows_few = R.n-high;
-          some-bank = R.b-low;
+          slots_few = R.q_high;
+          rows_few = R.n_high;
+          some_bank = R.b_low;
           rows_long = X.rows;
-          counts-long = X.counts;
-          within = omega (arith, entry-inside P (due-some S.a _ D.due), rows-room P);
+          counts_long = X.counts;
+          within = omega (arith, entry_inside P (due_some S.a _ D.due), rows_room P);
         };
-        tabled = record { rows_few = R.n-high; slots-few = R.q-high; forward-long = X.forward; reverse-long = X.reverse };
+        tabled = record { rows_few = R.n_high; slots_few = R.q_high; forward_long = X.forward; reverse_long = X.reverse };
         head_in = (fits P).steady.head_in;
-        passed-in = (fits P).steady.passed-in;
+        passed_in = (fits P).steady.passed_in;
       })
 
   -- what it tells before step 2 is what the steps say
-  pub over-is : skipped_for S (ring_of σ.control) f σ.rows σ.counts ≡ skipped S σ a.row
-  over-is =
+  pub over_is : skipped_for S (ring_of σ.control) f σ.rows σ.counts ≡ skipped S σ a.row
+  over_is =
       let R = (fits P).ranges in
       let X = (fits P).lengths in
       rw D.sought.found
-      (skipped-before S σ a.row R.b-low X.rows X.counts (row-holds P).0 R.n-high R.q-high goes
+      (skipped-before S σ a.row R.b_low X.rows X.counts (row-holds P).0 R.n_high R.q_high goes
       (fits P).steady.head_in)

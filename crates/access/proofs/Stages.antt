@@ -18,8 +18,8 @@ use Rattle.engine.specs.declared.Asked.{Asked}
 use Rattle.engine.specs.State.{State, lengths_of, ring_of, forward_of}
 use Rattle.engine.specs.Ladder.{fit_number, row_number}
 use Rattle.ladder.specs.Stages.{first_unsound, others_unsound}
-use Rattle.access.proofs.Refuses.{Fitted, fit_passed, Ticked, control-passed, Passed, row-passed}
-use Rattle.access.proofs.Finds.{found_with, Banked, bank-found, Sought, all_found}
+use Rattle.access.proofs.Refuses.{Fitted, fit_passed, Ticked, control_passed, Passed, row_passed}
+use Rattle.access.proofs.Finds.{found_with, Banked, bank_found, Sought, all_found}
 
 -- past 1 to 3; lengths, unfit: the lengths and the number of 1 to 3, as the code has them
 module _ (S : Settings) (σ : State) {lengths : Lengths} (long : lengths ≡ lengths_of σ)
@@ -32,18 +32,18 @@ module _ (S : Settings) (σ : State) {lengths : Lengths} (long : lengths ≡ len
       (first-is : first ≡ first_unsound S (ring_of σ.control) (get_or σ.control.spill 0 0) (get_or σ.control.acts 0 0) σ.counts)
       (others-are : others ≡ others_unsound S σ.control.spill σ.control.acts σ.counts) (none : (first || others) ≡ false) where
     pub ticked : Ticked S σ
-    ticked = control-passed fitted first-is others-are none
+    ticked = control_passed fitted first-is others-are none
 
     -- past 5 to 7; asked, number: what is asked and its number, as the code has them
     module _ {a asked : Asked} (asks : asked ≡ a) {number : ℕ} (numbered : number ≡ row_number S σ.tables asked) (zero : number ≡ 0) where
       pub passed : Passed S σ a
-      passed = row-passed ticked asks numbered zero
+      passed = row_passed ticked asks numbered zero
 
       -- the place and its bank
       module _ {e : ForwardEntry} (entered : e.0 ≡ forward_of σ a.row) {p : PhysicalRow} (placed : p ≡ physical (place_by S e.0 a.row))
           {bank : Bank} (of_bank : bank ≡ bank_with σ.control (bank_of S p.0)) where
         pub banked : Banked S σ a e p bank
-        banked = bank-found passed entered placed of_bank
+        banked = bank_found passed entered placed of_bank
 
         -- past 8, all that is found
         module _ {full : Bool} (told : full ≡ eqb bank.acts S.l) (less : full ≡ false) {i : ℕ}

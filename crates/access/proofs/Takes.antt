@@ -9,22 +9,22 @@ use lib.ListN.{length}
 use borrow.Author.Tests.{eq-eqb, ne_eqb}
 use Rattle.geometry.specs.declared.Settings.{Settings}
 use Rattle.geometry.specs.Entry.{empty}
-use Rattle.conditions.proofs.Facts.{Ranges, Exact, ranges-facts, lengths-facts}
+use Rattle.conditions.proofs.Facts.{Ranges, Exact, ranges_facts, lengths_facts}
 use Rattle.tracking.specs.Track.{is_due}
-use Rattle.basics.proofs.Portions.{portion-before}
+use Rattle.basics.proofs.Portions.{portion_before}
 use Rattle.engine.specs.declared.Asked.{Asked}
 use Rattle.engine.specs.State.{State, Storage, ring_of, lengths_of, forward_of, reverse_of}
 use Rattle.engine.specs.Steps.{place, moves, skipped, destination, rise}
 use Rattle.engine.specs.Ladder.{access_number}
-use Rattle.engine.proofs.Facts.{Accepted, accepted, Steady, steady, row-sound, slot-sound, place-below, RowSound}
-use Rattle.engine.proofs.Moves.{destination-in, slide, rise-to, not_own}
+use Rattle.engine.proofs.Facts.{Accepted, accepted, Steady, steady, row_sound, slot_sound, place_below, RowSound}
+use Rattle.engine.proofs.Moves.{destination_in, slide, rise-to, not_own}
 use Rattle.verdict.specs.declared.Found.{Found}
 use Rattle.verdict.specs.declared.Verdict.{Verdict}
 use Rattle.verdict.specs.Verdicts.{sent, quarantine_verdict, skipped_for}
-use Rattle.verdict.proofs.Judged.{access-stays, access-moves, verdict-stops, verdict-sent}
+use Rattle.verdict.proofs.Judged.{access_stays, access_moves, verdict_stops, verdict_sent}
 use Rattle.settle.specs.Settling.{Movable}
 use Rattle.access.proofs.Refuses.{Stops}
-use Rattle.access.proofs.Finds.{Sought, Due, rests, goes, over-is}
+use Rattle.access.proofs.Finds.{Sought, Due, rests, goes, over_is}
 
 -- where a row that is quarantined goes, as the steps have it
 abbrev pub sent_to : Settings → State → ℕ → Verdict
@@ -37,41 +37,41 @@ with_store σ store = record { store = store; tables = σ.tables; ring = ring_of
 -- an access that is accepted; due: whether its row is quarantined
 pub record Taken (S : Settings) (σ : State) (a : Asked) (f : Found) (due : Bool) : Type 0 where
   pub sought : Sought S σ a f
-  pub number-0 : access_number S σ a ≡ 0
+  pub number_0 : access_number S σ a ≡ 0
   pub moved : moves S σ a.row ≡ due
 
 -- and goes where the verdict v says
 pub record Going (S : Settings) (σ : State) (a : Asked) (f : Found) (v : Verdict) : Type 0 where
   pub taken : Taken S σ a f true
-  pub sent-there : v ≡ sent_to S σ a.row
+  pub sent_there : v ≡ sent_to S σ a.row
 
 -- the row stays
 pub stays : {S : Settings} {σ : State} {a : Asked} {f : Found} → Sought S σ a f
     → {due : Bool} → due ≡ is_due S.a f.update.estimate → due ≡ false → Taken S σ a f false
 stays {S} {σ} {a} K told not_so =
     let still = rests K told not_so in
-    record { sought = K; number-0 = access-stays S σ a K.passed.early-0 K.more still; moved = still }
+    record { sought = K; number_0 = access_stays S σ a K.passed.early_0 K.more still; moved = still }
 
 -- it is to be quarantined; v: the verdict of that
 module _ {S : Settings} {σ : State} {a : Asked} {f : Found} (D : Due S σ a f) {v : Verdict}
     (decided : v ≡ quarantine_verdict S (ring_of σ.control) σ.tables (skipped_for S (ring_of σ.control) f σ.rows σ.counts)) where
-  verdict-is : v ≡ quarantine_verdict S (ring_of σ.control) σ.tables (skipped S σ a.row)
-  verdict-is = decided ∙ ap (quarantine_verdict S (ring_of σ.control) σ.tables) (over-is D)
+  verdict_is : v ≡ quarantine_verdict S (ring_of σ.control) σ.tables (skipped S σ a.row)
+  verdict_is = decided ∙ ap (quarantine_verdict S (ring_of σ.control) σ.tables) (over_is D)
 
   -- the verdict's number is the ladder's
-  last-is : v.number ≡ access_number S σ a
-  last-is =
-      verdict-stops S (ring_of σ.control) σ.tables (skipped S σ a.row) v verdict-is
-      ∙ access-moves S σ a D.sought.passed.early-0 D.sought.more (goes D)
+  last_is : v.number ≡ access_number S σ a
+  last_is =
+      verdict_stops S (ring_of σ.control) σ.tables (skipped S σ a.row) v verdict_is
+      ∙ access_moves S σ a D.sought.passed.early_0 D.sought.more (goes D)
 
-  pub last-stops : v.number ≢ 0 → Stops S σ a v.number
-  last-stops n = record { is = last-is; some = n }
+  pub last_stops : v.number ≢ 0 → Stops S σ a v.number
+  last_stops n = record { is = last_is; some = n }
 
   pub going : v.number ≡ 0 → Going S σ a f v
   going z =
       record {
-        taken = record { sought = D.sought; number-0 = sym last-is ∙ z; moved = goes D };
-        sent-there = verdict-sent S (ring_of σ.control) σ.tables (skipped S σ a.row) v verdict-is z;
+        taken = record { sought = D.sought; number_0 = sym last_is ∙ z; moved = goes D };
+        sent_there = verdict_sent S (ring_of σ.control) σ.tables (skipped S σ a.row) v verdict_is z;
       }
 
 -- ---- what the calls ask that serve an accepted access
@@ -81,38 +81,38 @@ module _ {S : Settings} {σ : State} {a : Asked} {f : Found} {due : Bool} (T : T
   row = a.row
 
   A : Accepted S σ a
-  A = accepted S σ a T.number-0
+  A = accepted S σ a T.number_0
 
   R : Ranges S
-  R = ranges-facts S A.reached.fit.ranges
+  R = ranges_facts S A.reached.fit.ranges
 
   X : Exact S (lengths_of σ)
-  X = lengths-facts S (lengths_of σ) A.reached.fit.lengths
+  X = lengths_facts S (lengths_of σ) A.reached.fit.lengths
 
   K : Steady S σ
   K = steady S σ A.reached.control
 
   pointers : RowSound S σ row
-  pointers = row-sound S σ row A.reached.pointers
+  pointers = row_sound S σ row A.reached.pointers
 
-  pub span-in : a.off ≡ false
-  span-in = A.reached.span-in
+  pub span_in : a.off ≡ false
+  span_in = A.reached.span_in
 
   pub place-in : place S σ row < S.n + S.q
-  place-in = place-below S σ row R A.reached.row_in A.reached.pointers
+  place-in = place_below S σ row R A.reached.row_in A.reached.pointers
 
   pub store_long : length σ.store ≡ (S.n + S.q) * S.w
   store_long = X.store
 
   -- the row's place lies in the store
   pub place_inside : f.place.0 * S.w + S.w ≤ length σ.store
-  place_inside = rw T.sought.found (omega (arith, portion-before S.w (place S σ row) (S.n + S.q) place-in, X.store))
+  place_inside = rw T.sought.found (omega (arith, portion_before S.w (place S σ row) (S.n + S.q) place-in, X.store))
 
   away : forward_of σ row ≡ empty → place S σ row < S.n
   away at = rw (eq-eqb (forward_of σ row) empty at) A.reached.row_in
 
   in-slot : forward_of σ row < S.q → place S σ row ≡ S.n + forward_of σ row
-  in-slot at = rw (ne_eqb (forward_of σ row) empty (λ z. omega (arith, R.q-high)))
+  in-slot at = rw (ne_eqb (forward_of σ row) empty (λ z. omega (arith, R.q_high)))
 
 -- the move is ready; store: with the bytes in the row's place
 pub movable : {S : Settings} {σ : State} {a : Asked} {f : Found} {v : Verdict} → Going S σ a f v
@@ -122,21 +122,21 @@ movable {S} {σ} {a} G long =
     let d : ℕ = destination S σ a.row in
     let room : σ.control.passed + rise S σ a.row ≤ S.q = (A T).room T.moved in
     let free : d ≢ forward_of σ a.row = not_own S σ a.row d (slide S σ a.row (K T).head_in room).free in
-    rw (G.sent-there, T.sought.found)
+    rw (G.sent_there, T.sought.found)
     (record {
       sendable = record {
         ranges = (A T).reached.fit.ranges;
         store_long = long ∙ (X T).store;
-        forward-long = (X T).forward;
-        slot-in = destination-in S σ a.row (K T).head_in;
-        held_in = elim (slot-sound S σ d ((A T).target T.moved)) [ inl z ↦ inl z | inr c ↦ inr c.0 ];
+        forward_long = (X T).forward;
+        slot_in = destination_in S σ a.row (K T).head_in;
+        held_in = elim (slot_sound S σ d ((A T).target T.moved)) [ inl z ↦ inl z | inr c ↦ inr c.0 ];
       };
-      reverse-long = (X T).reverse;
+      reverse_long = (X T).reverse;
       row_in = (A T).reached.row_in;
-      entry-is = refl;
+      entry_is = refl;
       entry_in = elim (pointers T) [ inl z ↦ inl z | inr c ↦ inr c.0 ];
       place-in = place-in T;
       apart = λ z. elim (pointers T) [ inl e ↦ omega (arith, away T e, z) | inr c ↦ free (omega (arith, in-slot T c.0, z)) ];
-      rise-is = sym (rise-to S σ a.row (K T).head_in room);
+      rise_is = sym (rise-to S σ a.row (K T).head_in room);
       room = room;
     })

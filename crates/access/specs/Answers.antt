@@ -36,5 +36,5 @@ done_of ring f slot row =
 -- before steps 2 and 3 are followed: the numbers fit
 pub record Servable (f : Found) (rows counts : List ℕ) : Type 0 where
   pub followable : Followable f.update f.place.0 rows counts
-  pub spill-small : f.bank.spill < 65536
-  pub acts-small : f.bank.acts < 1360000
+  pub spill_small : f.bank.spill < 65536
+  pub acts_small : f.bank.acts < 1360000

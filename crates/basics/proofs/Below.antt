@@ -16,18 +16,18 @@ unfolding some_below
 below_more test c e f = rw (add-one, e, f)
 
 -- the first number, and the others
-or-joined : (a b c : Bool) → ((a || b) || c) ≡ (a || (b || c))
-or-joined true b c = refl
-or-joined false b c = refl
+or_joined : (a b c : Bool) → ((a || b) || c) ≡ (a || (b || c))
+or_joined true b c = refl
+or_joined false b c = refl
 
-pub below-first : (test : ℕ → Bool) (n : ℕ) → some_below test (suc n) ≡ (test 0 || some_below (λ c. test (suc c)) n)
+pub below_first : (test : ℕ → Bool) (n : ℕ) → some_below test (suc n) ≡ (test 0 || some_below (λ c. test (suc c)) n)
 unfolding some_below
-below-first test zero = or-none (test 0)
+below_first test zero = or_none (test 0)
   where
-    or-none : (a : Bool) → (false || a) ≡ (a || false)
-    or-none true = refl
-    or-none false = refl
-below-first test (suc n) = ap (λ (found : Bool). found || test (suc n)) (below-first test n) ∙ or-joined (test 0) (some_below (λ c. test (suc c)) n) (test (suc n))
+    or_none : (a : Bool) → (false || a) ≡ (a || false)
+    or_none true = refl
+    or_none false = refl
+below_first test (suc n) = ap (λ (found : Bool). found || test (suc n)) (below_first test n) ∙ or_joined (test 0) (some_below (λ c. test (suc c)) n) (test (suc n))
 
 -- none passes the test
 pub none_below : (test : ℕ → Bool) (n : ℕ) → ((c : ℕ) → c < n → test c ≡ false) → some_below test n ≡ false
@@ -35,17 +35,17 @@ unfolding some_below
 none_below test zero none = refl
 none_below test (suc n) none = rw (none_below test n (λ c h. none c (omega arith)), none n (le_refl (suc n)))
 
-pub fails-below : (test : ℕ → Bool) (n c : ℕ) → some_below test n ≡ false → c < n → test c ≡ false
+pub fails_below : (test : ℕ → Bool) (n c : ℕ) → some_below test n ≡ false → c < n → test c ≡ false
 unfolding some_below
-fails-below test zero c h l = absurd (not-suc-le-zero l)
-fails-below test (suc n) c h l =
+fails_below test zero c h l = absurd (not-suc-le-zero l)
+fails_below test (suc n) c h l =
     elim (eq? c n) [
       | inl e ↦ rw e (or_right (some_below test n) (test n) h)
-      | inr k ↦ fails-below test n c (or_left (some_below test n) (test n) h) (omega arith)
+      | inr k ↦ fails_below test n c (or_left (some_below test n) (test n) h) (omega arith)
     ]
 
 -- only the answers of the test below n matter
-pub same-below : (test test' : ℕ → Bool) (n : ℕ) → ((c : ℕ) → c < n → test c ≡ test' c) → some_below test n ≡ some_below test' n
+pub same_below : (test test' : ℕ → Bool) (n : ℕ) → ((c : ℕ) → c < n → test c ≡ test' c) → some_below test n ≡ some_below test' n
 unfolding some_below
-same-below test test' zero same = refl
-same-below test test' (suc n) same = rw (same-below test test' n (λ c h. same c (omega arith)), same n (le_refl (suc n)))
+same_below test test' zero same = refl
+same_below test test' (suc n) same = rw (same_below test test' n (λ c h. same c (omega arith)), same n (le_refl (suc n)))

@@ -25,8 +25,8 @@ filled_more v was table i b f =
       long = length-set table i v ∙ f.long;
     }
 
-pub filled-all : (v : ℕ) (was table : List ℕ) (i : ℕ) → length was ≤ i → Filled v was table i
+pub filled_all : (v : ℕ) (was table : List ℕ) (i : ℕ) → length was ≤ i → Filled v was table i
     → table ≡ replicate (length was) v
-filled-all v was table i b f =
+filled_all v was table i b f =
     let e : i ≡ length was = omega (arith, f.within) in
     f.same ∙ rw (e, drop-length) (append-nil (replicate (length was) v))

@@ -16,36 +16,36 @@ module _ (d : List ℕ) (at : ℕ) (s : List ℕ) (n : ℕ) (fits : at + n ≤ l
   length_before : length (take at d) ≡ at
   length_before = length-take-le at d (omega arith)
 
-  length-through : length (take at d ++ take n s) ≡ at + n
-  length-through = length_paste_head d at s n (omega arith) enough
+  length_through : length (take at d ++ take n s) ≡ at + n
+  length_through = length_paste_head d at s n (omega arith) enough
 
   -- in the pasted part stand the elements of s
-  pub paste-in : (j : ℕ) → j < n → get_or (paste d at s n) (at + j) 0 ≡ get_or s j 0
-  paste-in j h =
-      get_or-append (take at d ++ take n s) (drop (at + n) d) 0 (at + j) (omega (arith, length-through))
+  pub paste_in : (j : ℕ) → j < n → get_or (paste d at s n) (at + j) 0 ≡ get_or s j 0
+  paste_in j h =
+      get_or-append (take at d ++ take n s) (drop (at + n) d) 0 (at + j) (omega (arith, length_through))
       ∙ (rw length_before at (get_or-append-add (take at d) (take n s) j 0))
       ∙ get_or-take n s j 0 h
 
   -- before it and behind it, those of d
-  pub paste-out : (i : ℕ) → (i < at) ⊎ (at + n ≤ i) → get_or (paste d at s n) i 0 ≡ get_or d i 0
-  paste-out i (inl before) =
-      get_or-append (take at d ++ take n s) (drop (at + n) d) 0 i (omega (arith, length-through))
+  pub paste_out : (i : ℕ) → (i < at) ⊎ (at + n ≤ i) → get_or (paste d at s n) i 0 ≡ get_or d i 0
+  paste_out i (inl before) =
+      get_or-append (take at d ++ take n s) (drop (at + n) d) 0 i (omega (arith, length_through))
       ∙ get_or-append (take at d) (take n s) 0 i (omega (arith, length_before))
       ∙ get_or-take at d i 0 before
-  paste-out i (inr behind) =
+  paste_out i (inr behind) =
       let j = i - (at + n) in
       let e : at + n + j ≡ i = add-sub_of_le behind in
-      (rw (length-through, e) at (get_or-append-add (take at d ++ take n s) (drop (at + n) d) j 0))
+      (rw (length_through, e) at (get_or-append-add (take at d ++ take n s) (drop (at + n) d) j 0))
       ∙ get_or-drop (at + n) d j 0
       ∙ ap (λ (k : ℕ). get_or d k 0) e
 
 -- only the first n elements of s count
-pub paste-alike : (d : List ℕ) (at : ℕ) (s t : List ℕ) (n : ℕ) → take n s ≡ take n t → paste d at s n ≡ paste d at t n
-paste-alike d at s t n e = ap (λ (m : List ℕ). take at d ++ m ++ drop (at + n) d) e
+pub paste_alike : (d : List ℕ) (at : ℕ) (s t : List ℕ) (n : ℕ) → take n s ≡ take n t → paste d at s n ≡ paste d at t n
+paste_alike d at s t n e = ap (λ (m : List ℕ). take at d ++ m ++ drop (at + n) d) e
 
 -- behind the first i elements of s, the next k
-pub paste-further : (d : List ℕ) (at : ℕ) (s : List ℕ) (i k : ℕ) → at + i ≤ length d → i ≤ length s → paste (paste d at s i) (at + i) (drop i s) k ≡ paste d at s (i + k)
-paste-further d at s i k fits enough =
+pub paste_further : (d : List ℕ) (at : ℕ) (s : List ℕ) (i k : ℕ) → at + i ≤ length d → i ≤ length s → paste (paste d at s i) (at + i) (drop i s) k ≡ paste d at s (i + k)
+paste_further d at s i k fits enough =
     let l = paste d at s i in
     let before : take (at + i) l ≡ take at d ++ take i s = take-paste d at s i (omega arith) enough in
     let behind : drop (at + i + k) l ≡ drop (at + (i + k)) d =
@@ -57,20 +57,20 @@ paste-further d at s i k fits enough =
     (append_assoc (take at d) (take i s) (take k (drop i s)) ∙ ap (λ (m : List ℕ). take at d ++ m) (sym (take-add i k s))))
 
 -- all of d is written
-pub paste-over : (d s : List ℕ) → length d ≡ length s → paste d 0 s (length s) ≡ s
-paste-over d s h = simp (zero-add, drop_of_length-le d {i = length s} (omega arith), append-nil, take-length)
+pub paste_over : (d s : List ℕ) → length d ≡ length s → paste d 0 s (length s) ≡ s
+paste_over d s h = simp (zero-add, drop_of_length-le d {i = length s} (omega arith), append-nil, take-length)
 
 -- the first k elements from the m-th on, and the others
-drop-through : (m k : ℕ) (xs : List ℕ) → m ≤ k → k ≤ length xs → drop m (take k xs) ++ drop k xs ≡ drop m xs
-drop-through m k xs low high =
+drop_through : (m k : ℕ) (xs : List ℕ) → m ≤ k → k ≤ length xs → drop m (take k xs) ++ drop k xs ≡ drop m xs
+drop_through m k xs low high =
     sym (drop-append-le m (take k xs) (drop k xs) (omega (arith, length-take-le k xs high))) ∙ ap (drop m) (take-append-drop k xs)
 
 -- the part from index a up to index e is lent, and comes back with n elements of s pasted into it
-pub paste-part : (d : List ℕ) (a e at : ℕ) (s : List ℕ) (n : ℕ) {l : List ℕ} → e ≤ length d → a + at + n ≤ e
+pub paste_part : (d : List ℕ) (a e at : ℕ) (s : List ℕ) (n : ℕ) {l : List ℕ} → e ≤ length d → a + at + n ≤ e
     → l ≡ paste (mid_of a (e - a) d) at s n → put_mid a (e - a) d l ≡ paste d (a + at) s n
-paste-part d a e at s n inside fits pasted =
+paste_part d a e at s n inside fits pasted =
     let rest = drop a d in
     let before : take at (take (e - a) rest) ≡ take at rest = take-take at (e - a) rest (omega arith) in
-    let behind = drop-through (at + n) (e - a) rest (omega arith) (omega (arith, length-drop a d)) in
+    let behind = drop_through (at + n) (e - a) rest (omega arith) (omega (arith, length-drop a d)) in
     let end : drop (at + n) rest ≡ drop (a + at + n) d = drop-drop (at + n) a d ∙ ap (λ (m : ℕ). drop m d) (sym (add_assoc a at n)) in
     rw pasted (simp (append_assoc, before, behind, end, take-add a at d))

@@ -8,23 +8,23 @@ use mathlib.Core.List.{List}
 use lib.ListN.{length, get_or, set, take, drop, replicate, length-drop, length-set, length-replicate, get_or-replicate}
 use lib.Seq.{take-add, drop_at, length-paste, length-take-le, get_or-take, get_or-drop, ext_get_or, take-set-lt, drop-set-add, get_or-set_same, get_or-set_other}
 use Rattle.basics.proofs.Cases.{eq?, lt?}
-use Rattle.basics.proofs.Pastes.{paste-in, paste-out}
+use Rattle.basics.proofs.Pastes.{paste_in, paste_out}
 use Rattle.basics.specs.Portions.{portion, with_portion}
 
 -- portions do not overlap: one before another ends before it starts
-pub portion-before : (k c d : ℕ) → c < d → c * k + k ≤ d * k
-portion-before k c d h = omega (arith, suc-mul c k, mul-le-mul_right k h)
+pub portion_before : (k c d : ℕ) → c < d → c * k + k ≤ d * k
+portion_before k c d h = omega (arith, suc-mul c k, mul-le-mul_right k h)
 
-pub portions-apart : (k c d : ℕ) → d ≢ c → (d * k + k ≤ c * k) ⊎ (c * k + k ≤ d * k)
-portions-apart k c d other = elim (lt? d c) [ inl before ↦ inl (portion-before k d c before) | inr behind ↦ inr (portion-before k c d (omega arith)) ]
+pub portions_apart : (k c d : ℕ) → d ≢ c → (d * k + k ≤ c * k) ⊎ (c * k + k ≤ d * k)
+portions_apart k c d other = elim (lt? d c) [ inl before ↦ inl (portion_before k d c before) | inr behind ↦ inr (portion_before k c d (omega arith)) ]
 
 -- so each element of portion d lies before portion c or behind it
-pub portion-apart : (k c d i : ℕ) → d ≢ c → i < k → (d * k + i < c * k) ⊎ (c * k + k ≤ d * k + i)
-portion-apart k c d i other h = elim (portions-apart k c d other) [ inl before ↦ inl (omega arith) | inr behind ↦ inr (omega arith) ]
+pub portion_apart : (k c d i : ℕ) → d ≢ c → i < k → (d * k + i < c * k) ⊎ (c * k + k ≤ d * k + i)
+portion_apart k c d i other h = elim (portions_apart k c d other) [ inl before ↦ inl (omega arith) | inr behind ↦ inr (omega arith) ]
 
 -- portion c of b is in a buffer of b portions
-pub portion-fits : (k b c n : ℕ) → n ≡ b * k → c < b → c * k + k ≤ n
-portion-fits k b c n long inside = omega (arith, portion-before k c b inside)
+pub portion_fits : (k b c n : ℕ) → n ≡ b * k → c < b → c * k + k ≤ n
+portion_fits k b c n long inside = omega (arith, portion_before k c b inside)
 
 -- a portion as it is lent, from its start to its end
 pub portion-lent : (k c : ℕ) (xs : List ℕ) → take (c * k + k - c * k) (drop (c * k) xs) ≡ portion k c xs
@@ -61,11 +61,11 @@ module _ (k c : ℕ) (xs : List ℕ) (fits : c * k + k ≤ length xs) where
 
     at_new : (i : ℕ) → i < k → get_or (with_portion k c xs new) (c * k + i) 0 ≡ get_or new i 0
     unfolding with_portion
-    at_new = paste-in xs (c * k) new k fits (omega arith)
+    at_new = paste_in xs (c * k) new k fits (omega arith)
 
     pub at_old : (i : ℕ) → (i < c * k) ⊎ (c * k + k ≤ i) → get_or (with_portion k c xs new) i 0 ≡ get_or xs i 0
     unfolding with_portion
-    at_old = paste-out xs (c * k) new k fits (omega arith)
+    at_old = paste_out xs (c * k) new k fits (omega arith)
 
 -- the portion that was put, and another
 module _ (k c : ℕ) (xs : List ℕ) (fits : c * k + k ≤ length xs) (new : List ℕ) (same : length new ≡ k) where
@@ -78,13 +78,13 @@ module _ (k c : ℕ) (xs : List ℕ) (fits : c * k + k ≤ length xs) (new : Lis
       ext_get_or 0 (portion k c (with_portion k c xs new)) new (long ∙ sym same)
       (λ i b. get_or-portion k c (with_portion k c xs new) (omega (arith, long_after)) i 0 (omega (arith, long)) ∙ at_new k c xs fits new same i (omega (arith, long)))
 
-  pub portion-other : (d : ℕ) → d * k + k ≤ length xs → d ≢ c → portion k d (with_portion k c xs new) ≡ portion k d xs
-  portion-other d room n =
+  pub portion_other : (d : ℕ) → d * k + k ≤ length xs → d ≢ c → portion k d (with_portion k c xs new) ≡ portion k d xs
+  portion_other d room n =
       let long : length (portion k d (with_portion k c xs new)) ≡ k = length-portion k d (with_portion k c xs new) (omega (arith, long_after)) in
       ext_get_or 0 (portion k d (with_portion k c xs new)) (portion k d xs) (long ∙ sym (length-portion k d xs room))
       (λ i b.
       get_or-portion k d (with_portion k c xs new) (omega (arith, long_after)) i 0 (omega (arith, long))
-      ∙ at_old k c xs fits new same (d * k + i) (portion-apart k c d i n (omega (arith, long)))
+      ∙ at_old k c xs fits new same (d * k + i) (portion_apart k c d i n (omega (arith, long)))
       ∙ sym (get_or-portion k d xs room i 0 (omega (arith, long))))
 
 module _ (k c : ℕ) (xs : List ℕ) (fits : c * k + k ≤ length xs) where
@@ -106,8 +106,8 @@ module _ (k c : ℕ) (xs : List ℕ) (fits : c * k + k ≤ length xs) where
       ])
 
   -- it is put back as it was
-  pub portion-own : with_portion k c xs (portion k c xs) ≡ xs
-  portion-own = portion-put (portion k c xs) xs (length-portion k c xs fits) refl (λ i b. get_or-portion k c xs fits i 0 b) (λ j o. refl)
+  pub portion_own : with_portion k c xs (portion k c xs) ≡ xs
+  portion_own = portion-put (portion k c xs) xs (length-portion k c xs fits) refl (λ i b. get_or-portion k c xs fits i 0 b) (λ j o. refl)
 
   -- one element of portion c is written: the portion is replaced, and others stay
   module _ (i v : ℕ) (inside : i < k) where
@@ -130,18 +130,18 @@ module _ (k c : ℕ) (xs : List ℕ) (fits : c * k + k ≤ length xs) where
         ])
         (λ j o. sym (get_or-set_other xs (c * k + i) j v 0 (λ e. elim o [ inl h ↦ omega arith | inr h ↦ omega arith ])))
 
-    pub portion-set-other : (d : ℕ) → d * k + k ≤ length xs → d ≢ c → portion k d (set xs (c * k + i) v) ≡ portion k d xs
-    portion-set-other d room n =
-        ap (portion k d) (sym set-portion) ∙ portion-other k c xs fits (set (portion k c xs) i v) same d room n
+    pub portion-set_other : (d : ℕ) → d * k + k ≤ length xs → d ≢ c → portion k d (set xs (c * k + i) v) ≡ portion k d xs
+    portion-set_other d room n =
+        ap (portion k d) (sym set-portion) ∙ portion_other k c xs fits (set (portion k c xs) i v) same d room n
 
 -- every portion of a buffer that holds one number
 pub portion-replicate : (k b c x : ℕ) → c < b → portion k c (replicate (b * k) x) ≡ replicate k x
 portion-replicate k b c x inside =
-    let room : c * k + k ≤ length (replicate {0} (b * k) x) = omega (arith, length-replicate (b * k) x, portion-before k c b inside) in
+    let room : c * k + k ≤ length (replicate {0} (b * k) x) = omega (arith, length-replicate (b * k) x, portion_before k c b inside) in
     let long : length (portion k c (replicate (b * k) x)) ≡ k = length-portion k c (replicate (b * k) x) room in
     ext_get_or 0 (portion k c (replicate (b * k) x)) (replicate k x) (long ∙ sym (length-replicate k x))
     (λ i h.
     let i-in : i < k = omega (arith, long) in
     get_or-portion k c (replicate (b * k) x) room i 0 i-in
-    ∙ get_or-replicate (b * k) (c * k + i) x 0 (omega (arith, portion-before k c b inside))
+    ∙ get_or-replicate (b * k) (c * k + i) x 0 (omega (arith, portion_before k c b inside))
     ∙ sym (get_or-replicate k i x 0 i-in))

@@ -7,12 +7,12 @@ use borrow.Author.Tests.{leb-true, le-leb, not-true, not-false}
 use Rattle.basics.specs.Ranges.{in_range}
 
 -- a call ensures that its result is the test t, and the branch on `!result` was taken: t failed
-pub told-not : {a t : Bool} → a ≡ t → not a ≡ true → t ≡ false
-told-not {a} e q = sym e ∙ not-true a q
+pub told_not : {a t : Bool} → a ≡ t → not a ≡ true → t ≡ false
+told_not {a} e q = sym e ∙ not-true a q
 
 -- the branch on `!result` was left: t passed
-pub told-yes : {a t : Bool} → a ≡ t → not a ≡ false → t ≡ true
-told-yes {a} e q = sym e ∙ not-false a q
+pub told_yes : {a t : Bool} → a ≡ t → not a ≡ false → t ≡ true
+told_yes {a} e q = sym e ∙ not-false a q
 
 pub and_left : (a b : Bool) → a && b ≡ true → a ≡ true
 and_left true b e = refl

@@ -10,24 +10,24 @@ use Rattle.conditions.specs.Conditions.{ranges_hold, limit_holds, store_holds, l
 use Rattle.basics.proofs.Tests.{and_left, and_right, low, high}
 
 pub record Ranges (S : Settings) : Type 0 where
-  pub n-low : 1 ≤ S.n
-  pub n-high : S.n ≤ 60000
-  pub q-low : 2 ≤ S.q
-  pub q-high : S.q ≤ 5500
-  pub w-low : 1 ≤ S.w
-  pub w-high : S.w ≤ 8192
-  pub k-low : 1 ≤ S.k
-  pub k-high : S.k ≤ 4096
-  pub a-low : 1 ≤ S.a
-  pub a-high : S.a ≤ 65535
-  pub l-low : 1 ≤ S.l
-  pub l-high : S.l ≤ 1360000
-  pub b-low : 1 ≤ S.b
-  pub b-high : S.b ≤ 16
+  pub n_low : 1 ≤ S.n
+  pub n_high : S.n ≤ 60000
+  pub q_low : 2 ≤ S.q
+  pub q_high : S.q ≤ 5500
+  pub w_low : 1 ≤ S.w
+  pub w_high : S.w ≤ 8192
+  pub k_low : 1 ≤ S.k
+  pub k_high : S.k ≤ 4096
+  pub a_low : 1 ≤ S.a
+  pub a_high : S.a ≤ 65535
+  pub l_low : 1 ≤ S.l
+  pub l_high : S.l ≤ 1360000
+  pub b_low : 1 ≤ S.b
+  pub b_high : S.b ≤ 16
 
-pub ranges-facts : (S : Settings) → ranges_hold S ≡ true → Ranges S
+pub ranges_facts : (S : Settings) → ranges_hold S ≡ true → Ranges S
 unfolding ranges_hold
-ranges-facts S h =
+ranges_facts S h =
     let n : in_range 1 60000 S.n ≡ true = search (and_left, and_right) depth 8 in
     let q : in_range 2 5500 S.q ≡ true = search (and_left, and_right) depth 8 in
     let w : in_range 1 8192 S.w ≡ true = search (and_left, and_right) depth 8 in
@@ -36,25 +36,25 @@ ranges-facts S h =
     let l : in_range 1 1360000 S.l ≡ true = search (and_left, and_right) depth 8 in
     let b : in_range 1 16 S.b ≡ true = search (and_left, and_right) depth 8 in
     record {
-      n-low = low 1 60000 S.n n;
-      n-high = high 1 60000 S.n n;
-      q-low = low 2 5500 S.q q;
-      q-high = high 2 5500 S.q q;
-      w-low = low 1 8192 S.w w;
-      w-high = high 1 8192 S.w w;
-      k-low = low 1 4096 S.k k;
-      k-high = high 1 4096 S.k k;
-      a-low = low 1 65535 S.a a;
-      a-high = high 1 65535 S.a a;
-      l-low = low 1 1360000 S.l l;
-      l-high = high 1 1360000 S.l l;
-      b-low = low 1 16 S.b b;
-      b-high = high 1 16 S.b b;
+      n_low = low 1 60000 S.n n;
+      n_high = high 1 60000 S.n n;
+      q_low = low 2 5500 S.q q;
+      q_high = high 2 5500 S.q q;
+      w_low = low 1 8192 S.w w;
+      w_high = high 1 8192 S.w w;
+      k_low = low 1 4096 S.k k;
+      k_high = high 1 4096 S.k k;
+      a_low = low 1 65535 S.a a;
+      a_high = high 1 65535 S.a a;
+      l_low = low 1 1360000 S.l l;
+      l_high = high 1 1360000 S.l l;
+      b_low = low 1 16 S.b b;
+      b_high = high 1 16 S.b b;
     }
 
-pub limit-fact : (S : Settings) → limit_holds S ≡ true → S.l < S.a * (S.k + 1)
+pub limit_fact : (S : Settings) → limit_holds S ≡ true → S.l < S.a * (S.k + 1)
 unfolding limit_holds
-limit-fact S h = ltb-true S.l (S.a * (S.k + 1)) h
+limit_fact S h = ltb-true S.l (S.a * (S.k + 1)) h
 
 pub limit-holds : (S : Settings) → S.l < S.a * (S.k + 1) → limit_holds S ≡ true
 unfolding limit_holds
@@ -67,9 +67,9 @@ pub record Exact (S : Settings) (lent : Lengths) : Type 0 where
   pub rows : lent.rows ≡ S.b * S.k
   pub counts : lent.counts ≡ S.b * S.k
 
-pub lengths-facts : (S : Settings) (lent : Lengths) → lengths_hold S lent ≡ true → Exact S lent
+pub lengths_facts : (S : Settings) (lent : Lengths) → lengths_hold S lent ≡ true → Exact S lent
 unfolding lengths_hold store_holds
-lengths-facts S lent h =
+lengths_facts S lent h =
     record {
       store = eqb-true lent.store ((S.n + S.q) * S.w) (search (and_left, and_right) depth 8);
       forward = eqb-true lent.forward S.n (search (and_left, and_right) depth 8);

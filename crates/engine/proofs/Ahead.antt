@@ -8,8 +8,8 @@ use mathlib.Core.Logic.{inl, inr, ◌≢◌}
 use mathlib.Core.Bool.{Bool, true, false, cond}
 use Rattle.basics.proofs.Cases.{split, eq?, lt?}
 use Rattle.engine.specs.Round.{skipped_of}
-use Rattle.engine.proofs.GoneBy.{gone_by, gone-head, gone-new, gone-other, next-in, Slide, slide-one, slide-more}
-use Rattle.engine.proofs.Skipping.{next-there}
+use Rattle.engine.proofs.GoneBy.{gone_by, gone_head, gone_new, gone_other, next_in, Slide, slide_one, slide_more}
+use Rattle.engine.proofs.Skipping.{next_there}
 
 -- the distance from h to the slot n further on, round q
 pub distance : (q h n : ℕ) → h < q → n < q → ((h + n) % q + q - h) % q ≡ n
@@ -37,19 +37,19 @@ unfolding sum_to
 sum_same zero f g h = refl
 sum_same (suc k) f g h = omega (arith, h k (le_refl (suc k)), sum_same k f g (λ s b. h s (omega arith)))
 
-sum-but : (k x : ℕ) (f g : ℕ → ℕ) → x < k → ((s : ℕ) → s < k → s ≢ x → f s ≡ g s) → sum_to k f + g x ≡ sum_to k g + f x
+sum_but : (k x : ℕ) (f g : ℕ → ℕ) → x < k → ((s : ℕ) → s < k → s ≢ x → f s ≡ g s) → sum_to k f + g x ≡ sum_to k g + f x
 unfolding sum_to
-sum-but zero x f g b h = absurd (not-suc-le-zero b)
-sum-but (suc k) x f g b h =
+sum_but zero x f g b h = absurd (not-suc-le-zero b)
+sum_but (suc k) x f g b h =
     elim (eq? k x) [
       | inl e ↦ rw (← e) (omega (arith, sum_same k f g (λ s l. h s (omega arith) (λ w. omega arith))))
-      | inr n ↦ omega (arith, h k (le_refl (suc k)) n, sum-but k x f g (omega arith) (λ s l m. h s (omega arith) m))
+      | inr n ↦ omega (arith, h k (le_refl (suc k)) n, sum_but k x f g (omega arith) (λ s l m. h s (omega arith) m))
     ]
 
-sum-zero : (k : ℕ) (f : ℕ → ℕ) → ((s : ℕ) → s < k → f s ≡ 0) → sum_to k f ≡ 0
+sum_zero : (k : ℕ) (f : ℕ → ℕ) → ((s : ℕ) → s < k → f s ≡ 0) → sum_to k f ≡ 0
 unfolding sum_to
-sum-zero zero f h = refl
-sum-zero (suc k) f h = omega (arith, h k (le_refl (suc k)), sum-zero k f (λ s b. h s (omega arith)))
+sum_zero zero f h = refl
+sum_zero (suc k) f h = omega (arith, h k (le_refl (suc k)), sum_zero k f (λ s b. h s (omega arith)))
 
 -- ---- the marked slots that are not gone by
 
@@ -59,20 +59,20 @@ marked_at mark q h n s = cond (gone_by q h n s) 0 (cond (mark s) 1 0)
 pub ahead : (ℕ → Bool) → ℕ → ℕ → ℕ → ℕ
 ahead mark q h n = sum_to q (marked_at mark q h n)
 
-no-mark : (gone : Bool) → cond {A = ℕ} gone 0 0 ≡ 0
-no-mark true = refl
-no-mark false = refl
+no_mark : (gone : Bool) → cond {A = ℕ} gone 0 0 ≡ 0
+no_mark true = refl
+no_mark false = refl
 
 module _ (q h n : ℕ) where
   -- none is marked
   pub ahead_none : (mark : ℕ → Bool) → ((s : ℕ) → s < q → mark s ≡ false) → ahead mark q h n ≡ 0
   unfolding ahead
-  ahead_none mark none = sum-zero q (marked_at mark q h n) (λ s b. rw (none s b) (no-mark (gone_by q h n s)))
+  ahead_none mark none = sum_zero q (marked_at mark q h n) (λ s b. rw (none s b) (no_mark (gone_by q h n s)))
 
   -- the same are marked
-  pub ahead-same : (mark mark' : ℕ → Bool) → ((s : ℕ) → s < q → mark s ≡ mark' s) → ahead mark q h n ≡ ahead mark' q h n
+  pub ahead_same : (mark mark' : ℕ → Bool) → ((s : ℕ) → s < q → mark s ≡ mark' s) → ahead mark q h n ≡ ahead mark' q h n
   unfolding ahead
-  ahead-same mark mark' same =
+  ahead_same mark mark' same =
       sum_same q (marked_at mark q h n) (marked_at mark' q h n) (λ s b. ap (λ (x : Bool). cond (gone_by q h n s) 0 (cond x 1 0)) (same s b))
 
   one_more : (gone x y : Bool) → cond gone 0 (cond {A = ℕ} x 1 0) ≤ cond gone 0 (cond {A = ℕ} y 1 0) + 1
@@ -81,12 +81,12 @@ module _ (q h n : ℕ) where
   one_more false false y = omega arith
 
   -- the same but for one slot
-  pub ahead-but : (x : ℕ) (mark mark' : ℕ → Bool) → x < q → ((s : ℕ) → s < q → s ≢ x → mark s ≡ mark' s) → ahead mark q h n ≤ ahead mark' q h n + 1
+  pub ahead_but : (x : ℕ) (mark mark' : ℕ → Bool) → x < q → ((s : ℕ) → s < q → s ≢ x → mark s ≡ mark' s) → ahead mark q h n ≤ ahead mark' q h n + 1
   unfolding ahead
-  ahead-but x mark mark' b same =
+  ahead_but x mark mark' b same =
       omega (
         arith,
-        sum-but q x (marked_at mark q h n) (marked_at mark' q h n) b (λ s l m. ap (λ (y : Bool). cond (gone_by q h n s) 0 (cond y 1 0)) (same s l m)),
+        sum_but q x (marked_at mark q h n) (marked_at mark' q h n) b (λ s l m. ap (λ (y : Bool). cond (gone_by q h n s) 0 (cond y 1 0)) (same s l m)),
         one_more (gone_by q h n x) (mark x) (mark' x),
       )
 
@@ -94,9 +94,9 @@ module _ (q h n : ℕ) where
 ahead_step : (mark : ℕ → Bool) (q h n : ℕ) → h < q → n < q → ahead mark q h n ≡ cond (mark h) 1 0 + ahead mark q ((h + 1) % q) (n + 1)
 unfolding ahead
 ahead_step mark q h n b room =
-    let was : marked_at mark q h n h ≡ cond (mark h) 1 0 = rw (gone-head q h n room) in
-    let now : marked_at mark q ((h + 1) % q) (n + 1) h ≡ 0 = rw (gone-new q h n b) in
-    omega (arith, sum-but q h (marked_at mark q ((h + 1) % q) (n + 1)) (marked_at mark q h n) b (λ s l m. rw (gone-other q h n s b l m)))
+    let was : marked_at mark q h n h ≡ cond (mark h) 1 0 = rw (gone_head q h n room) in
+    let now : marked_at mark q ((h + 1) % q) (n + 1) h ≡ 0 = rw (gone_new q h n b) in
+    omega (arith, sum_but q h (marked_at mark q ((h + 1) % q) (n + 1)) (marked_at mark q h n) b (λ s l m. rw (gone_other q h n s b l m)))
 
 -- ---- the head skips slots and goes by the next
 
@@ -106,12 +106,12 @@ module _ (skip : ℕ → Bool) (q : ℕ) where
   target k h = (h + skipped_of skip q k h) % q
 
   -- the skipped slots, which were marked, and the next are gone by then
-  pub goes-past : (k h n : ℕ) → h < q → skipped_of skip q k h < k → n + suc (skipped_of skip q k h) ≤ q
+  pub goes_past : (k h n : ℕ) → h < q → skipped_of skip q k h < k → n + suc (skipped_of skip q k h) ≤ q
       → Slide skip q h n (target k h) ((target k h + 1) % q) (n + suc (skipped_of skip q k h))
       × (ahead skip q h n ≡ skipped_of skip q k h + ahead skip q ((target k h + 1) % q) (n + suc (skipped_of skip q k h)))
   unfolding skipped_of
-  goes-past zero h n b found room = absurd (not-suc-le-zero found)
-  goes-past (suc k) h n b found room =
+  goes_past zero h n b found room = absurd (not-suc-le-zero found)
+  goes_past (suc k) h n b found room =
       let first : ahead skip q h n ≡ cond (skip h) 1 0 + ahead skip q ((h + 1) % q) (n + 1) = ahead_step skip q h n b (omega arith) in
       elim (split (skip h)) [
         | inl e ↦
@@ -120,23 +120,23 @@ module _ (skip : ℕ → Bool) (q : ℕ) where
             let room' : n + suc (suc w) ≤ q = rw e at room in
             let more : n + suc (suc w) ≡ n + 1 + suc w = omega arith in
             let one : ahead skip q h n ≡ 1 + ahead skip q ((h + 1) % q) (n + 1) = first ∙ rw e refl in
-            let rest = goes-past k ((h + 1) % q) (n + 1) (next-in q h b) found' (omega arith) in
-            rw (e, more, ← next-there q h w) (slide-more skip q h n _ _ _ b e rest.0, omega (arith, one, rest.1))
+            let rest = goes_past k ((h + 1) % q) (n + 1) (next_in q h b) found' (omega arith) in
+            rw (e, more, ← next_there q h w) (slide_more skip q h n _ _ _ b e rest.0, omega (arith, one, rest.1))
         | inr e ↦
             let room' : n + 1 ≤ q = rw e at room in
             let none : ahead skip q h n ≡ 0 + ahead skip q ((h + 1) % q) (n + 1) = first ∙ rw e refl in
-            rw (e, add-zero h, mod-eq_of_lt b) (slide-one skip q h n b (omega arith) e, omega (arith, none))
+            rw (e, add-zero h, mod-eq_of_lt b) (slide_one skip q h n b (omega arith) e, omega (arith, none))
       ]
 
   -- where as many are skipped as are not gone by, each of those is marked
-  pub ahead-all : (k m h n : ℕ) → h < q → n + k ≤ q → k ≤ skipped_of skip q m h → k ≤ ahead skip q h n
+  pub ahead_all : (k m h n : ℕ) → h < q → n + k ≤ q → k ≤ skipped_of skip q m h → k ≤ ahead skip q h n
   unfolding skipped_of
-  ahead-all zero m h n b room full = zero-le
-  ahead-all (suc k) zero h n b room full = absurd (not-suc-le-zero full)
-  ahead-all (suc k) (suc m) h n b room full =
+  ahead_all zero m h n b room full = zero-le
+  ahead_all (suc k) zero h n b room full = absurd (not-suc-le-zero full)
+  ahead_all (suc k) (suc m) h n b room full =
       elim (split (skip h)) [
         | inl e ↦
             let first : ahead skip q h n ≡ 1 + ahead skip q ((h + 1) % q) (n + 1) = ahead_step skip q h n b (omega arith) ∙ rw e refl in
-            omega (arith, first, ahead-all k m ((h + 1) % q) (n + 1) (next-in q h b) (omega arith) (le_of_suc-le-suc (rw e at full)))
+            omega (arith, first, ahead_all k m ((h + 1) % q) (n + 1) (next_in q h b) (omega arith) (le_of_suc-le-suc (rw e at full)))
         | inr e ↦ absurd (not-suc-le-zero (rw e at full))
       ]

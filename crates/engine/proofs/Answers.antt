@@ -25,12 +25,12 @@ module _ (S : Settings) (σ : State) (r x : ℕ) (store filled buffer : List ℕ
 
   -- a refused one leaves everything, and holds nothing beside the number
   pub record Untouched : Type 0 where
-    pub state-kept : (accessed S σ r x store filled buffer).state ≡ σ
-    pub buffer-kept : (accessed S σ r x store filled buffer).buffer ≡ buffer
-    pub place-0 : place_of (accessed S σ r x store filled buffer).answer ≡ 0
-    pub estimate-0 : estimate_in (accessed S σ r x store filled buffer).answer ≡ 0
-    pub move-none : move_of (accessed S σ r x store filled buffer).answer ≡ Stayed
+    pub state_kept : (accessed S σ r x store filled buffer).state ≡ σ
+    pub buffer_kept : (accessed S σ r x store filled buffer).buffer ≡ buffer
+    pub place_0 : place_of (accessed S σ r x store filled buffer).answer ≡ 0
+    pub estimate_0 : estimate_in (accessed S σ r x store filled buffer).answer ≡ 0
+    pub move_none : move_of (accessed S σ r x store filled buffer).answer ≡ Stayed
 
   pub untouched : x ≢ 0 → Untouched
   unfolding accessed
-  untouched n = record { state-kept = rw (ne_eqb x 0 n); buffer-kept = rw (ne_eqb x 0 n); place-0 = rw (ne_eqb x 0 n); estimate-0 = rw (ne_eqb x 0 n); move-none = rw (ne_eqb x 0 n) }
+  untouched n = record { state_kept = rw (ne_eqb x 0 n); buffer_kept = rw (ne_eqb x 0 n); place_0 = rw (ne_eqb x 0 n); estimate_0 = rw (ne_eqb x 0 n); move_none = rw (ne_eqb x 0 n) }

@@ -21,8 +21,8 @@ use Rattle.engine.specs.Inverse.{Inverse}
 pub record Sound (S : Settings) (σ : State) : Type 0 where
   pub ranges : Ranges S
   pub lengths : Exact S (lengths_of σ)
-  pub spill-long : S.b ≤ length σ.control.spill
-  pub acts-long : S.b ≤ length σ.control.acts
+  pub spill_long : S.b ≤ length σ.control.spill
+  pub acts_long : S.b ≤ length σ.control.acts
   pub inverse : Inverse S σ
 
 -- row r is moved to slot d: the tables that come of it
@@ -37,12 +37,12 @@ pub record Relinked (S : Settings) (σ : State) (r d : ℕ) (forward reverse : L
   pub others : (s : ℕ) → s ≢ d → s ≢ forward_of σ r → get_or reverse s empty ≡ reverse_of σ s
 
 -- no row, slot or physical row is the mark for empty
-pub marks-none : (S : Settings) → Ranges S → (x : ℕ) → x < S.n + S.q → x ≢ empty
-marks-none S R x b e = omega (arith, R.n-high, R.q-high)
+pub marks_none : (S : Settings) → Ranges S → (x : ℕ) → x < S.n + S.q → x ≢ empty
+marks_none S R x b e = omega (arith, R.n_high, R.q_high)
 
 module _ (S : Settings) (σ : State) (sound : Sound S σ) (r : ℕ) (row_in : r < S.n) where
   real : (x : ℕ) → x < S.n + S.q → x ≢ empty
-  real = marks-none S sound.ranges
+  real = marks_none S sound.ranges
 
   -- the place of a row
   pub place_is : ((forward_of σ r ≡ empty) × (place S σ r ≡ r)) ⊎ ((forward_of σ r < S.q) × (place S σ r ≡ S.n + forward_of σ r))
@@ -66,22 +66,22 @@ module _ (S : Settings) (σ : State) (sound : Sound S σ) (r : ℕ) (row_in : r 
         ]
       ]
 
-  module _ (d : ℕ) (slot-in : d < S.q) (free : d ≢ forward_of σ r) where
-    pub left-long : length (left σ.tables.reverse (forward_of σ r)) ≡ S.q
-    left-long =
+  module _ (d : ℕ) (slot_in : d < S.q) (free : d ≢ forward_of σ r) where
+    pub left_long : length (left σ.tables.reverse (forward_of σ r)) ≡ S.q
+    left_long =
         elim (split (eqb (forward_of σ r) empty)) [ inl k ↦ rw k sound.lengths.reverse | inr k ↦ rw k (simp length-set sound.lengths.reverse) ]
 
-    reverse-filled : get_or (set (left σ.tables.reverse (forward_of σ r)) d r) d empty ≡ r
-    reverse-filled = get_or-set_same (left σ.tables.reverse (forward_of σ r)) d r empty (omega (arith, left-long))
+    reverse_filled : get_or (set (left σ.tables.reverse (forward_of σ r)) d r) d empty ≡ r
+    reverse_filled = get_or-set_same (left σ.tables.reverse (forward_of σ r)) d r empty (omega (arith, left_long))
 
-    reverse-freed : forward_of σ r < S.q → get_or (set (left σ.tables.reverse (forward_of σ r)) d r) (forward_of σ r) empty ≡ empty
-    reverse-freed b =
+    reverse_freed : forward_of σ r < S.q → get_or (set (left σ.tables.reverse (forward_of σ r)) d r) (forward_of σ r) empty ≡ empty
+    reverse_freed b =
         let t : eqb (forward_of σ r) empty ≡ false = ne_eqb (forward_of σ r) empty (real (forward_of σ r) (omega arith)) in
         get_or-set_other (left σ.tables.reverse (forward_of σ r)) d (forward_of σ r) r empty (λ e. free (sym e))
         ∙ rw t (get_or-set_same σ.tables.reverse (forward_of σ r) empty empty (omega (arith, sound.lengths.reverse)))
 
-    reverse-others : (s : ℕ) → s ≢ d → s ≢ forward_of σ r → get_or (set (left σ.tables.reverse (forward_of σ r)) d r) s empty ≡ reverse_of σ s
-    reverse-others s nd ne =
+    reverse_others : (s : ℕ) → s ≢ d → s ≢ forward_of σ r → get_or (set (left σ.tables.reverse (forward_of σ r)) d r) s empty ≡ reverse_of σ s
+    reverse_others s nd ne =
         get_or-set_other (left σ.tables.reverse (forward_of σ r)) d s r empty nd
         ∙ elim (split (eqb (forward_of σ r) empty)) [
           | inl k ↦ rw k refl
@@ -97,21 +97,21 @@ module _ (S : Settings) (σ : State) (sound : Sound S σ) (r : ℕ) (row_in : r 
         ]
 
     -- to an empty slot
-    pub relinked-to : reverse_of σ d ≡ empty → Relinked S σ r d (set σ.tables.forward r d) (set (left σ.tables.reverse (forward_of σ r)) d r)
-    relinked-to vacant =
+    pub relinked_to : reverse_of σ d ≡ empty → Relinked S σ r d (set σ.tables.forward r d) (set (left σ.tables.reverse (forward_of σ r)) d r)
+    relinked_to vacant =
         record {
           mover = get_or-set_same σ.tables.forward r d empty (omega (arith, sound.lengths.forward));
           evicted = λ x b n e. absurd (real x (omega arith) (sym (holder x b e) ∙ vacant));
           rest = λ x b n e. get_or-set_other σ.tables.forward r x d empty n;
-          filled = reverse-filled;
-          freed = reverse-freed;
-          others = reverse-others;
+          filled = reverse_filled;
+          freed = reverse_freed;
+          others = reverse_others;
         }
 
     -- to a slot whose row v is sent home
-    pub relinked-over : (v : ℕ) → reverse_of σ d ≡ v → v < S.n → forward_of σ v ≡ d
+    pub relinked_over : (v : ℕ) → reverse_of σ d ≡ v → v < S.n → forward_of σ v ≡ d
         → Relinked S σ r d (set (set σ.tables.forward v empty) r d) (set (left σ.tables.reverse (forward_of σ r)) d r)
-    relinked-over v held v-in back =
+    relinked_over v held v-in back =
         record {
           mover = get_or-set_same (set σ.tables.forward v empty) r d empty (omega (arith, length-set σ.tables.forward v empty, sound.lengths.forward));
           evicted = λ x b n e.
@@ -119,17 +119,17 @@ module _ (S : Settings) (σ : State) (sound : Sound S σ) (r : ℕ) (row_in : r 
               get_or-set_other (set σ.tables.forward v empty) r x d empty n ∙ rw xv (get_or-set_same σ.tables.forward v empty empty (omega (arith, sound.lengths.forward)));
           rest = λ x b n e.
               get_or-set_other (set σ.tables.forward v empty) r x d empty n ∙ get_or-set_other σ.tables.forward v x empty empty (λ xv. e (ap (forward_of σ) xv ∙ back));
-          filled = reverse-filled;
-          freed = reverse-freed;
-          others = reverse-others;
+          filled = reverse_filled;
+          freed = reverse_freed;
+          others = reverse_others;
         }
 
     -- the tables are inverse again
-    pub inverse-moved : (σ' : State) → Relinked S σ r d σ'.tables.forward σ'.tables.reverse → Inverse S σ'
-    inverse-moved σ' L =
+    pub inverse_moved : (σ' : State) → Relinked S σ r d σ'.tables.forward σ'.tables.reverse → Inverse S σ'
+    inverse_moved σ' L =
         record {
           forward = λ x b. elim (eq? x r) [
-            | inl e ↦ inr (rw (e, L.mover) slot-in, rw (e, L.mover) L.filled)
+            | inl e ↦ inr (rw (e, L.mover) slot_in, rw (e, L.mover) L.filled)
             | inr n ↦ elim (eq? (forward_of σ x) d) [
               | inl e ↦ inl (L.evicted x b n e)
               | inr m ↦ elim (sound.inverse.forward x b) [

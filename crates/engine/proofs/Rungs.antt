@@ -44,9 +44,9 @@ unfolding ◌▹◌
 goes_on b e = rw e
 
 -- the rest matters only where the first number is 0
-pub rest-alike : (a : ℕ) {b c : ℕ} → (a ≡ 0 → b ≡ c) → a ▹ b ≡ a ▹ c
+pub rest_alike : (a : ℕ) {b c : ℕ} → (a ≡ 0 → b ≡ c) → a ▹ b ≡ a ▹ c
 unfolding ◌▹◌
-rest-alike a same = elim (split (eqb a 0)) [ inl e ↦ rw e (same (eqb-true a 0 e)) | inr e ↦ rw e ]
+rest_alike a same = elim (split (eqb a 0)) [ inl e ↦ rw e (same (eqb-true a 0 e)) | inr e ↦ rw e ]
 
 -- two ladders one after the other are one
 pub joined : (a b c : ℕ) → (a ▹ b) ▹ c ≡ a ▹ (b ▹ c)
@@ -82,14 +82,14 @@ past condition x b y n h =
 
 -- ---- what holds of every number that a ladder can give
 
-pub stops-all : (P : ℕ → Type 0) (condition : Bool) (x : ℕ) → P 0 → (condition ≡ true → P x) → P (stops condition x)
+pub stops_all : (P : ℕ → Type 0) (condition : Bool) (x : ℕ) → P 0 → (condition ≡ true → P x) → P (stops condition x)
 unfolding stops
-stops-all P true x z h = h refl
-stops-all P false x z h = z
+stops_all P true x z h = h refl
+stops_all P false x z h = z
 
-pub ladder-all : (P : ℕ → Type 0) (a b : ℕ) → P a → (a ≡ 0 → P b) → P (a ▹ b)
+pub ladder_all : (P : ℕ → Type 0) (a b : ℕ) → P a → (a ≡ 0 → P b) → P (a ▹ b)
 unfolding ◌▹◌
-ladder-all P a b h k = elim (split (eqb a 0)) [ inl e ↦ rw e (k (eqb-true a 0 e)) | inr e ↦ rw e h ]
+ladder_all P a b h k = elim (split (eqb a 0)) [ inl e ↦ rw e (k (eqb-true a 0 e)) | inr e ↦ rw e h ]
 
 -- ---- tests
 

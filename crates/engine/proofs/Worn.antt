@@ -11,22 +11,22 @@ use Rattle.geometry.specs.Numbering.{slot_row}
 use Rattle.geometry.specs.Entry.{empty}
 use Rattle.basics.proofs.Cases.{split}
 use Rattle.tracking.specs.Worn.{worn}
-use Rattle.tracking.proofs.View.{spill-below}
-use Rattle.tracking.proofs.Worn.{worn-estimate, due-worn}
+use Rattle.tracking.proofs.View.{spill_below}
+use Rattle.tracking.proofs.Worn.{worn-estimate, due_worn}
 use Rattle.engine.specs.State.{State, Tracker, tracker_at, forward_of}
 use Rattle.engine.specs.Steps.{place, counted, moves, skips}
 use Rattle.engine.specs.OwnSlot.{OwnSlotWorn}
-use Rattle.engine.proofs.Pointers.{Sound, marks-none}
-use Rattle.engine.proofs.Trackers.{CountingBy, estimate_for, CountingAt, estimate, entries-alike, rows_same, counts_same}
+use Rattle.engine.proofs.Pointers.{Sound, marks_none}
+use Rattle.engine.proofs.Trackers.{CountingBy, estimate_for, CountingAt, estimate, entries_alike, rows_same, counts_same}
 
-pub own-slot-worn : OwnSlotWorn
-own-slot-worn S σ r some rows_long counts-long due away =
+pub own_slot-worn : OwnSlotWorn
+own_slot-worn S σ r some rows_long counts_long due away =
     let at : place S σ r ≡ slot_row S (forward_of σ r) = rw (ne_eqb (forward_of σ r) empty away) in
     let p : ℕ = place S σ r in
     let t : Tracker = tracker_at S σ p in
     subst (λ (x : ℕ). let u : Tracker = tracker_at S (counted S σ r) x in worn S.a u.rows u.counts x ≡ true) at
-    (rw (rows_same S σ r some rows_long counts-long p refl, counts_same S σ r some rows_long counts-long p refl)
-    (due-worn S.a p t.rows t.counts t.spill (entries-alike S σ r some rows_long counts-long) due))
+    (rw (rows_same S σ r some rows_long counts_long p refl, counts_same S σ r some rows_long counts_long p refl)
+    (due_worn S.a p t.rows t.counts t.spill (entries_alike S σ r some rows_long counts_long) due))
 
 -- of an access that moves its row, with sound tables: computed from the estimates after step 2
 pub skips-worn : (S : Settings) (σ : State) (r : ℕ) → Sound S σ → S.l < S.a * (S.k + 1)
@@ -37,14 +37,14 @@ skips-worn S σ r sound few counting most due s b =
     let t : Tracker = tracker_at S (counted S σ r) x in
     let C : CountingBy S.k t = counting x in
     let told : worn S.a t.rows t.counts x ≡ leb S.a (estimate_for t x) =
-    worn-estimate S.a t.rows t.counts t.spill x (C.rows_long ∙ sym C.counts-long) (spill-below C S.a S.l (most x) few) in
+    worn-estimate S.a t.rows t.counts t.spill x (C.rows_long ∙ sym C.counts_long) (spill_below C S.a S.l (most x) few) in
     elim (split (eqb (forward_of σ r) s)) [
       | inl k ↦
           let own : forward_of σ r ≡ s = eqb-true (forward_of σ r) s k in
-          let away : forward_of σ r ≢ empty = marks-none S sound.ranges (forward_of σ r) (omega arith) in
+          let away : forward_of σ r ≢ empty = marks_none S sound.ranges (forward_of σ r) (omega arith) in
           let high : worn S.a t.rows t.counts x ≡ true =
           subst (λ (y : ℕ). let u : Tracker = tracker_at S (counted S σ r) (S.n + y) in worn S.a u.rows u.counts (S.n + y) ≡ true) own
-          (own-slot-worn S σ r sound.ranges.b-low sound.lengths.rows sound.lengths.counts due away) in
+          (own_slot-worn S σ r sound.ranges.b_low sound.lengths.rows sound.lengths.counts due away) in
           rw k (sym high ∙ told)
       | inr k ↦ rw k told
     ]

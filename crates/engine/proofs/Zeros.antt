@@ -8,18 +8,18 @@ use Rattle.conditions.specs.Conditions.{ranges_hold, limit_holds}
 use Rattle.conditions.proofs.Facts.{lengths-hold}
 use Rattle.engine.specs.State.{State, state_of, lengths_of, new_control}
 use Rattle.engine.specs.Calls.{set_up, noted}
-use Rattle.engine.proofs.Facts.{fit-passes}
+use Rattle.engine.proofs.Facts.{fit_passes}
 
 abbrev pub zeros : Settings → State
 zeros S =
     state_of (replicate ((S.n + S.q) * S.w) 0) (replicate S.n 0) (replicate S.q 0)
     (replicate (S.b * S.k) 0) (replicate (S.b * S.k) 0) new_control
 
-pub zeros-accepted : (S : Settings) → ranges_hold S ≡ true → limit_holds S ≡ true → (set_up S (zeros S)).number ≡ 0
+pub zeros_accepted : (S : Settings) → ranges_hold S ≡ true → limit_holds S ≡ true → (set_up S (zeros S)).number ≡ 0
 unfolding set_up noted
-zeros-accepted S ranges limit =
+zeros_accepted S ranges limit =
     let long : (n : ℕ) → length (replicate {A = ℕ} n 0) ≡ n = λ n. length-replicate n 0 in
-    fit-passes S (zeros S)
+    fit_passes S (zeros S)
     (record {
       ranges = ranges;
       limit = limit;

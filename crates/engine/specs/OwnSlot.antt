@@ -1,5 +1,5 @@
 -- Document 02, Ask 4: 'as well as the moving row's own slot'. Those words are kept in the definition (`skips`), and say
--- nothing new: a row that is moved from a slot leaves that slot worn. The proof is `own-slot-worn` of proofs/Worn.antt.
+-- nothing new: a row that is moved from a slot leaves that slot worn. The proof is `own_slot-worn` of proofs/Worn.antt.
 -- Assumes nothing.
 use Rattle.std.specs.Prelude.{ℕ, ◌*◌, ◌≤◌, ◌≡◌, ◌≢◌, true, length}
 use Rattle.geometry.specs.declared.Settings.{Settings}

@@ -15,6 +15,6 @@ destination_from S head over = (head + over) % S.q
 
 -- '`passed` rises by the slots passed plus one', computed from the destination d: the slots from `head` to d, d among
 -- them
--- (`rise-is` of proofs/Moves.antt: where there is a destination, the two are the same)
+-- (`rise_is` of proofs/Moves.antt: where there is a destination, the two are the same)
 unfoldable pub rise_to : Settings → ℕ → ℕ → ℕ
 rise_to S head d = (d + S.q - head) % S.q + 1

@@ -13,14 +13,14 @@ pub refused-outcome : (number : ℕ)
 refused-outcome number = refl
 
 module _ (p e : ℕ) where
-  pub stayed-outcome : outcome_of (Done (physical p) e Stayed)
+  pub stayed_outcome : outcome_of (Done (physical p) e Stayed)
       ≡ record { number = 0; slot = empty; row = empty; estimate = e; place = p }
-  stayed-outcome = refl
+  stayed_outcome = refl
 
   pub filled-outcome : (d : ℕ) → outcome_of (Done (physical p) e (ToSlot (slot d)))
       ≡ record { number = 0; slot = d; row = empty; estimate = e; place = p }
   filled-outcome d = refl
 
-  pub evicted-outcome : (d v : ℕ) → outcome_of (Done (physical p) e (OverSlot (slot d) (visible v)))
+  pub evicted_outcome : (d v : ℕ) → outcome_of (Done (physical p) e (OverSlot (slot d) (visible v)))
       ≡ record { number = 0; slot = d; row = v; estimate = e; place = p }
-  evicted-outcome d v = refl
+  evicted_outcome d v = refl

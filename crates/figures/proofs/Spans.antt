@@ -17,10 +17,10 @@ use Rattle.figures.specs.declared.Span.{Span}
 use Rattle.figures.specs.Span.{span_of, spanned}
 
 -- the part of the store that the span names is the part that inspect returns
-pub span-part : (S : Settings) (σ : State) (r : ℕ)
+pub span_part : (S : Settings) (σ : State) (r : ℕ)
     → spanned (span_of S σ r) σ.store ≡ inspect_part S σ r
 unfolding span_of inspect_part row_bytes
-span-part S σ r = elim (split (eqb (inspect_number S σ r) 0)) [ inl e ↦ rw e refl | inr e ↦ rw e refl ]
+span_part S σ r = elim (split (eqb (inspect_number S σ r) 0)) [ inl e ↦ rw e refl | inr e ↦ rw e refl ]
 
 -- what the code answers where its number is not 0, and where it is
 module _ (S : Settings) (σ : State) (r x : ℕ) (same : x ≡ inspect_number S σ r) where
@@ -28,7 +28,7 @@ module _ (S : Settings) (σ : State) (r x : ℕ) (same : x ≡ inspect_number S 
   unfolding span_of
   span_none n span e = e ∙ rw (ne_eqb (inspect_number S σ r) 0 (λ z. n (same ∙ z)))
 
-  pub span-row : x ≡ 0 → (p : PhysicalRow) → p ≡ physical (place S σ r) → (span : Span)
+  pub span_row : x ≡ 0 → (p : PhysicalRow) → p ≡ physical (place S σ r) → (span : Span)
       → span ≡ record { start = p.0 * S.w; length = S.w } → span ≡ span_of S σ r
   unfolding span_of
-  span-row z p placed span e = e ∙ rw (eq-eqb (inspect_number S σ r) 0 (sym same ∙ z), placed)
+  span_row z p placed span e = e ∙ rw (eq-eqb (inspect_number S σ r) 0 (sym same ∙ z), placed)

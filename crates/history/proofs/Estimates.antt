@@ -12,30 +12,30 @@ use Rattle.geometry.specs.declared.Settings.{Settings}
 use Rattle.geometry.specs.Entry.{empty}
 use Rattle.basics.proofs.Cases.{eq?, lt?}
 use Rattle.basics.proofs.Tests.{and_left, and_right}
-use Rattle.conditions.proofs.Facts.{Ranges, limit-fact}
+use Rattle.conditions.proofs.Facts.{Ranges, limit_fact}
 use Rattle.tracking.specs.Track.{is_due}
-use Rattle.tracking.proofs.View.{estimate-new, spill-below}
+use Rattle.tracking.proofs.View.{estimate-new, spill_below}
 use Rattle.engine.specs.declared.Move.{Move}
 use Rattle.engine.specs.State.{State, Tracker, tracker_at}
 use Rattle.engine.specs.Answer.{slot_moved_to}
 use Rattle.engine.specs.Steps.{place, tracked, tracker_after, counted, move, settled}
 use Rattle.engine.specs.Calls as calls
 use Rattle.engine.proofs.Facts.{accepted}
-use Rattle.engine.proofs.Pointers.{marks-none, place-in}
-use Rattle.engine.proofs.Trackers.{estimate_for, estimate, TracksAt, tracker-same, all_new}
+use Rattle.engine.proofs.Pointers.{marks_none, place-in}
+use Rattle.engine.proofs.Trackers.{estimate_for, estimate, TracksAt, tracker_same, all_new}
 use Rattle.engine.proofs.Counting.{Estimated, estimated}
-use Rattle.engine.proofs.Moves.{tracks-access, slot-told}
+use Rattle.engine.proofs.Moves.{tracks_access, slot-told}
 use Rattle.history.specs.Tally as tally
 use Rattle.history.specs.Tally.{hit}
 use Rattle.history.specs.Run.{access, Call, rank, row_of, Answer, step, event_of, OfAccepted}
 use Rattle.history.specs.Chain.{OfChains, AnyCall}
 use Rattle.history.specs.Estimates.{Observed, unobserved, observe_access, observe, observed, Conclusions, Concludes, EstimatesHold, Estimates}
-use Rattle.history.proofs.Groups.{accepted_step, refused_step, ladder, store_by, not-accepted, step-cases}
+use Rattle.history.proofs.Groups.{accepted_step, refused_step, ladder, store_by, not_accepted, step_cases}
 use Rattle.history.proofs.Invariant.{Inv}
 use Rattle.history.proofs.Openings.{hit_same, hit_other}
-use Rattle.history.proofs.Rows.{place-low}
-use Rattle.history.proofs.Chain.{lists, idle-observe}
-use Rattle.history.proofs.History.{set_up-new, inv-set_up, inv-chain, followed}
+use Rattle.history.proofs.Rows.{place_low}
+use Rattle.history.proofs.Chain.{lists, idle_observe}
+use Rattle.history.proofs.History.{set_up-new, inv_set_up, inv_chain, followed}
 
 -- what was observed of a place against the tracker's estimate of it
 record Counted (estimate spill accesses latest since : ℕ) : Type 0 where
@@ -50,8 +50,8 @@ Watched S σ o = (p : ℕ) → p ≢ empty
 
 -- ---- a new epoch
 
-watched-new : (S : Settings) → 1 ≤ S.b → (σ : State) → Watched S (calls.ticked S σ) unobserved
-watched-new S some σ p n =
+watched_new : (S : Settings) → 1 ≤ S.b → (σ : State) → Watched S (calls.ticked S σ) unobserved
+watched_new S some σ p n =
     all_new S σ some (λ t. Counted (estimate_for t p) t.spill 0 0 0)
     (rw (estimate-new S.k p) (record { most = omega arith; least = omega arith; last = omega arith })) p
 
@@ -64,8 +64,8 @@ due a e few d =
     let none : e % a ≡ 0 = eqb-true (e % a) 0 (and_right (not (eqb e 0)) (eqb (e % a) 0) d) in
     elim (lt? e a) [ inl below ↦ absurd (some (sym (mod-eq_of_lt below) ∙ none)) | inr all ↦ omega arith ]
 
-not-due : (a e : ℕ) → 0 < a → is_due a e ≡ false → e ≢ a
-not-due a e pos d same =
+not_due : (a e : ℕ) → 0 < a → is_due a e ≡ false → e ≢ a
+not_due a e pos d same =
     let some : e ≢ 0 = λ z. omega arith in
     let none : e % a ≡ 0 = rw same (mod_self a) in
     true≢false (rw (ne_eqb e 0 some, eq-eqb (e % a) 0 none) at d)
@@ -79,34 +79,34 @@ module _ (S : Settings) (σ : State) (τ₀ τ : tally.Tally) (I : Inv S σ τ�
     given = (tracked S σ r).estimate
 
     real : p ≢ empty
-    real = marks-none S I.sound.ranges p (place-in S σ I.sound r row_in)
+    real = marks_none S I.sound.ranges p (place-in S σ I.sound r row_in)
 
     -- what step 2 does to the estimates
     K : TracksAt S σ r
-    K = tracks-access S σ I.sound r row_in (limit-fact S I.limit) more (I.counting p)
+    K = tracks_access S σ I.sound r row_in (limit_fact S I.limit) more (I.counting p)
 
     E : Estimated S σ (counted S σ r) p
     E = estimated S σ I.sound r K
 
     -- the tracker of its bank after it
     here : tracker_at S (counted S σ r) p ≡ tracker_after S σ r
-    here = tracker-same S σ I.sound r p refl
+    here = tracker_same S σ I.sound r p refl
 
     below : (tracked S σ r).spill < S.a
-    below = spill-below K.after S.a S.l more (limit-fact S I.limit)
+    below = spill_below K.after S.a S.l more (limit_fact S I.limit)
 
     -- what is answered is one more than the tracker's estimate of the place before; where it is 0, `spill` is that
     given_is : given ≢ 0 → given ≡ suc (estimate S σ p)
     given_is n = elim K.given [ inl g ↦ g ∙ K.same | inr g ↦ absurd (n g.0) ]
 
-    spill-is : given ≡ 0 → (tracked S σ r).spill ≡ suc (estimate S σ p)
-    spill-is z = elim K.given [ inl g ↦ omega (arith, g, K.same) | inr g ↦ sym g.1 ∙ K.same ]
+    spill_is : given ≡ 0 → (tracked S σ r).spill ≡ suc (estimate S σ p)
+    spill_is z = elim K.given [ inl g ↦ omega (arith, g, K.same) | inr g ↦ sym g.1 ∙ K.same ]
 
-    given-most : given ≤ suc (estimate S σ p)
-    given-most = elim (eq? given 0) [ inl z ↦ omega arith | inr n ↦ omega (arith, given_is n) ]
+    given_most : given ≤ suc (estimate S σ p)
+    given_most = elim (eq? given 0) [ inl z ↦ omega arith | inr n ↦ omega (arith, given_is n) ]
 
-    watched-access : (m : Move) → Watched S (settled S σ r store m) (observe_access o p given)
-    watched-access m x n =
+    watched_access : (m : Move) → Watched S (settled S σ r store m) (observe_access o p given)
+    watched_access m x n =
         elim (eq? x p) [
           | inl e ↦
               let was = W p real in
@@ -118,7 +118,7 @@ module _ (S : Settings) (σ : State) (τ₀ τ : tally.Tally) (I : Inv S σ τ�
               (sym e)
               (record {
                 most = omega (arith, was.most, E.same);
-                least = omega (arith, was.least, E.same, E.spill-grows p);
+                least = omega (arith, was.least, E.same, E.spill_grows p);
                 last = elim (eq? given 0) [
                   | inl z ↦ rw (eq-eqb p p refl, eq-eqb given 0 z) (omega (arith, was.last, E.same))
                   | inr g ↦ rw (eq-eqb p p refl, ne_eqb given 0 g) (omega (arith, given_is g, E.same))
@@ -130,7 +130,7 @@ module _ (S : Settings) (σ : State) (τ₀ τ : tally.Tally) (I : Inv S σ τ�
               let up = (E.other x k n).0 in
               rw (ne_eqb x p k) (record {
                 most = omega (arith, was.most);
-                least = elim (E.drifts x k n) [ inl g ↦ omega (arith, was.least, g, E.spill-grows x) | inr g ↦ omega (arith, g) ];
+                least = elim (E.drifts x k n) [ inl g ↦ omega (arith, was.least, g, E.spill_grows x) | inr g ↦ omega (arith, g) ];
                 last = omega (arith, was.last);
               })
         ]
@@ -140,42 +140,42 @@ module _ (S : Settings) (σ : State) (τ₀ τ : tally.Tally) (I : Inv S σ τ�
     concluded answer at is =
         let was = W p real in
         let told = slot-told S σ r I.sound.ranges I.head_in in
-        let low = place-low S σ τ₀ τ I r row_in in
-        let pos : 0 < S.a = I.sound.ranges.a-low in
-        let few : given ≤ S.a = omega (arith, given-most, low) in
+        let low = place_low S σ τ₀ τ I r row_in in
+        let pos : 0 < S.a = I.sound.ranges.a_low in
+        let few : given ≤ S.a = omega (arith, given_most, low) in
         rw (at, is) (record {
           within = few;
           moved = λ n. elim told [ inl t ↦ absurd (n t.0) | inr t ↦ due S.a given few t.1 ];
-          stayed = λ z. elim told [ inl t ↦ not-due S.a given pos t.1 | inr t ↦ absurd (t.0 z) ];
+          stayed = λ z. elim told [ inl t ↦ not_due S.a given pos t.1 | inr t ↦ absurd (t.0 z) ];
           rises = λ n. omega (arith, was.last, given_is n);
           further = omega (arith, was.last, low);
           last = λ e. elim (eq? given 0) [
-            | inl z ↦ absurd (omega (arith, was.last, spill-is z, below, low))
+            | inl z ↦ absurd (omega (arith, was.last, spill_is z, below, low))
             | inr n ↦ omega (arith, was.last, given_is n, low)
           ];
           most = λ n. omega (arith, was.most, given_is n);
-          least = omega (arith, given-most, was.least, K.spill-grows);
-          few = λ z. omega (arith, was.most, spill-is z);
-          spill-above = λ z. omega (arith, was.last, spill-is z);
+          least = omega (arith, given_most, was.least, K.spill_grows);
+          few = λ z. omega (arith, was.most, spill_is z);
+          spill_above = λ z. omega (arith, was.last, spill_is z);
           below = below;
         })
 
   -- ---- one call
 
-  watched-step : (c : Call) → Watched S (step S σ c).state (observe o (event_of c (step S σ c)))
-  watched-step =
-      step-cases S σ (λ c s. Watched S s.state (observe o (event_of c s)))
+  watched_step : (c : Call) → Watched S (step S σ c).state (observe o (event_of c (step S σ c)))
+  watched_step =
+      step_cases S σ (λ c s. Watched S s.state (observe o (event_of c s)))
       (λ c n. rw (ne_eqb (ladder S σ c) 0 n) W)
       (λ a z.
       let R = (accepted S σ _ z).reached in
-      watched-access (row_of a) R.row_in R.more (store_by S σ a) (move S σ (row_of a)))
+      watched_access (row_of a) R.row_in R.more (store_by S σ a) (move S σ (row_of a)))
       (λ x z. W)
-      (λ z. watched-new S I.sound.ranges.b-low σ)
+      (λ z. watched_new S I.sound.ranges.b_low σ)
 
-  concluded-step : (c : Call) → OfAccepted (Concludes S o (step S σ c).state) (event_of c (step S σ c))
-  concluded-step =
-      step-cases S σ (λ c s. OfAccepted (Concludes S o s.state) (event_of c s))
-      (λ c n. not-accepted (Concludes S o σ) (event_of c (refused_step S σ c)) n)
+  concluded_step : (c : Call) → OfAccepted (Concludes S o (step S σ c).state) (event_of c (step S σ c))
+  concluded_step =
+      step_cases S σ (λ c s. OfAccepted (Concludes S o s.state) (event_of c s))
+      (λ c n. not_accepted (Concludes S o σ) (event_of c (refused_step S σ c)) n)
       (λ a z w.
       let R = (accepted S σ _ z).reached in
       let answer : Answer = (accepted_step S σ (rank (access a))).answer in
@@ -190,13 +190,13 @@ module _ (S : Settings) (σ : State) (τ₀ τ : tally.Tally) (I : Inv S σ τ�
 
 pub concludes : OfChains (AnyCall EstimatesHold)
 concludes S blank σ es z chain c =
-    let I = inv-set_up S blank z in
+    let I = inv_set_up S blank z in
     let R : Ranges S = I.sound.ranges in
     let begun : Watched S (calls.set_up S blank).state unobserved =
-    subst (λ (σ' : State). Watched S σ' unobserved) (set_up-new S blank z) (watched-new S R.b-low (calls.cleared S blank)) in
-    let J = inv-chain S chain tally.start tally.start I in
-    concluded-step S σ J.0 J.1 J.2 (observed unobserved es)
-    (followed S observe observed (λ o. refl) (λ o e es. refl) (λ e o. idle-observe o) (Watched S) (watched-step S) chain tally.start tally.start I unobserved begun) c
+    subst (λ (σ' : State). Watched S σ' unobserved) (set_up-new S blank z) (watched_new S R.b_low (calls.cleared S blank)) in
+    let J = inv_chain S chain tally.start tally.start I in
+    concluded_step S σ J.0 J.1 J.2 (observed unobserved es)
+    (followed S observe observed (λ o. refl) (λ o e es. refl) (λ e o. idle_observe o) (Watched S) (watched_step S) chain tally.start tally.start I unobserved begun) c
 
 pub estimates : Estimates
 estimates = lists (AnyCall EstimatesHold) concludes

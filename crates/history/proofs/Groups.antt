@@ -17,7 +17,7 @@ use Rattle.engine.specs.Answer.{number_of}
 use Rattle.engine.specs.Steps.{place, tracked, move, state_after}
 use Rattle.engine.specs.Ladder.{tick_number, access_number}
 use Rattle.engine.specs.Calls as calls
-use Rattle.engine.proofs.Facts.{tick-not-9, inspect-not-9}
+use Rattle.engine.proofs.Facts.{tick_not_9, inspect_not_9}
 use Rattle.engine.proofs.Answers.{number_is}
 use Rattle.history.specs.Run.{Access, read, write, Look, access, look, Call, rank, tick}
 use Rattle.history.specs.Run.{row_of, span_off, asked_of, access_of, row_looked, look_number}
@@ -37,9 +37,9 @@ filled_by S σ (read r buffer) = row_bytes S.w σ.store (place S σ r)
 filled_by S σ (write r column bytes) = []
 
 -- a write whose span is not off ends within its row
-pub write-within : (S : Settings) (r column : ℕ) (bytes : List ℕ) → span_off S (write r column bytes) ≡ false
+pub write_within : (S : Settings) (r column : ℕ) (bytes : List ℕ) → span_off S (write r column bytes) ≡ false
     → column + length bytes ≤ S.w
-write-within S r column bytes e = ltb-false S.w (column + length bytes) e
+write_within S r column bytes e = ltb-false S.w (column + length bytes) e
 
 -- ---- what is said of accesses alone
 
@@ -49,8 +49,8 @@ of-access h (rank (look x)) = tt
 of-access h tick = tt
 
 -- nothing is said of a refused call
-pub not-accepted : (P : Access → Answer → Type 0) (e : Event) → e.answer.number ≢ 0 → OfAccepted P e
-not-accepted P e n = of-access (λ a z. absurd (n z)) e.call
+pub not_accepted : (P : Access → Answer → Type 0) (e : Event) → e.answer.number ≢ 0 → OfAccepted P e
+not_accepted P e n = of-access (λ a z. absurd (n z)) e.call
 
 module _ (S : Settings) (σ : State) where
   -- ---- the number of a call
@@ -62,16 +62,16 @@ module _ (S : Settings) (σ : State) where
   ladder tick = tick_number S σ
 
   -- a read and a write go through the same steps
-  access-is : (a : Access)
+  access_is : (a : Access)
       → access_of S σ a ≡ calls.accessed S σ (row_of a) (ladder (rank (access a))) (store_by S σ a) (filled_by S σ a) (lent_buffer a)
   unfolding calls.read calls.write
-  access-is (read r buffer) = refl
-  access-is (write r column bytes) = refl
+  access_is (read r buffer) = refl
+  access_is (write r column bytes) = refl
 
   -- the number is the ladder's
   pub step-number : (c : Call) → (step S σ c).answer.number ≡ ladder c
   unfolding step calls.tick calls.noted
-  step-number (rank (access a)) = ap (λ (x : calls.Accessed). number_of x.answer) (access-is a) ∙ number_is S σ (row_of a) _ _ _ _
+  step-number (rank (access a)) = ap (λ (x : calls.Accessed). number_of x.answer) (access_is a) ∙ number_is S σ (row_of a) _ _ _ _
   step-number (rank (look x)) = refl
   step-number tick = refl
 
@@ -80,8 +80,8 @@ module _ (S : Settings) (σ : State) where
       → (c : Call) → (step S σ c).answer.number ≡ 9 → P c
   unfolding step calls.tick calls.noted
   at_9 P h (rank (access a)) e = h a (sym (step-number (rank (access a))) ∙ e)
-  at_9 P h (rank (look x)) e = absurd (inspect-not-9 S σ (row_looked x) e)
-  at_9 P h tick e = absurd (tick-not-9 S σ e)
+  at_9 P h (rank (look x)) e = absurd (inspect_not_9 S σ (row_looked x) e)
+  at_9 P h tick e = absurd (tick_not_9 S σ e)
 
   -- ---- what a call leaves and answers
 
@@ -91,7 +91,7 @@ module _ (S : Settings) (σ : State) where
 
   pub refused-step : (c : Call) → ladder c ≢ 0 → step S σ c ≡ refused_step c
   unfolding step calls.tick calls.accessed calls.noted
-  refused-step (rank (access a)) n = rw (access-is a, ne_eqb (ladder (rank (access a))) 0 n)
+  refused-step (rank (access a)) n = rw (access_is a, ne_eqb (ladder (rank (access a))) 0 n)
   refused-step (rank (look x)) n = refl
   refused-step tick n = rw (ne_eqb (tick_number S σ) 0 n)
 
@@ -109,18 +109,18 @@ module _ (S : Settings) (σ : State) where
 
   pub accepted-step : (c : Call) → ladder c ≡ 0 → step S σ c ≡ accepted_step c
   unfolding step calls.tick calls.accessed calls.noted
-  accepted-step (rank (access a)) z = rw (access-is a, eq-eqb (ladder (rank (access a))) 0 z)
+  accepted-step (rank (access a)) z = rw (access_is a, eq-eqb (ladder (rank (access a))) 0 z)
   accepted-step (rank (look x)) z = rw z
   accepted-step tick z = rw z
 
   -- What holds of each call that is refused, and in each group of each call that is accepted, holds of every call.
-  pub step-cases : (P : Call → Step → Type 0)
+  pub step_cases : (P : Call → Step → Type 0)
       → ((c : Call) → ladder c ≢ 0 → P c (refused_step c))
       → ((a : Access) → ladder (rank (access a)) ≡ 0 → P (rank (access a)) (accepted_step (rank (access a))))
       → ((x : Look) → ladder (rank (look x)) ≡ 0 → P (rank (look x)) (accepted_step (rank (look x))))
       → (ladder tick ≡ 0 → P tick (accepted_step tick))
       → (c : Call) → P c (step S σ c)
-  step-cases P refusals accesses looks ticks c =
+  step_cases P refusals accesses looks ticks c =
       let by-group : (c : Call) → ladder c ≡ 0 → P c (accepted_step c) =
       elim [ rank (access a) ↦ accesses a | rank (look x) ↦ looks x | tick ↦ ticks ] in
       elim (split (eqb (ladder c) 0)) [
@@ -129,12 +129,12 @@ module _ (S : Settings) (σ : State) where
       ]
 
   -- What holds of each accepted access and its answer is said of every call.
-  pub of-accepted : (P : Access → Answer → Type 0)
+  pub of_accepted : (P : Access → Answer → Type 0)
       → ((a : Access) → ladder (rank (access a)) ≡ 0 → P a (accepted_step (rank (access a))).answer)
       → (c : Call) → OfAccepted P (event_of c (step S σ c))
-  of-accepted P h =
-      step-cases (λ c s. OfAccepted P (event_of c s))
-      (λ c n. not-accepted P (event_of c (refused_step c)) n)
+  of_accepted P h =
+      step_cases (λ c s. OfAccepted P (event_of c s))
+      (λ c n. not_accepted P (event_of c (refused_step c)) n)
       (λ a z w. h a z)
       (λ x z. tt)
       (λ z. tt)

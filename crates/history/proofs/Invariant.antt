@@ -41,14 +41,14 @@ pub record Inv (S : Settings) (σ : State) (τ₀ τ : Tally) : Type 0 where
   pub limit : limit_holds S ≡ true
   pub sound : Sound S σ
   pub head_in : σ.control.head < S.q
-  pub passed-in : σ.control.passed ≤ S.q
+  pub passed_in : σ.control.passed ≤ S.q
   -- the trackers, by the physical rows that they serve
-  pub acts-in : (p : ℕ) → (tracker_at S σ p).acts ≤ S.l
+  pub acts_in : (p : ℕ) → (tracker_at S σ p).acts ≤ S.l
   pub counting : (p : ℕ) → CountingAt S σ p
   -- the quarantines of all banks together
   pub quarantines : τ.quarantines ≡ τ₀.quarantines + quotients S.a σ.counts
   -- for each quarantine, two slots at most are gone by or are worn ahead of the head
-  pub passed-few : σ.control.passed + ahead (worn_slot S σ) S.q σ.control.head σ.control.passed
+  pub passed_few : σ.control.passed + ahead (worn_slot S σ) S.q σ.control.head σ.control.passed
       ≤ 2 * quotients S.a σ.counts
   pub places : (x : ℕ) → x < S.n → τ.place x ≡ place S σ x
   pub homes : (x : ℕ) → x < S.n → HomeKept S σ τ₀ τ x

@@ -10,7 +10,7 @@ use lib.ListN.{get_or-replicate}
 use Rattle.geometry.specs.declared.Settings.{Settings}
 use Rattle.geometry.specs.Entry.{empty}
 use Rattle.banks.specs.Banks.{bank_of}
-use Rattle.tracking.proofs.Spare.{busy, busy-new}
+use Rattle.tracking.proofs.Spare.{busy, busy_new}
 use Rattle.tracking.proofs.View.{estimate-new}
 use Rattle.engine.specs.State.{State, tracker_at, forward_of, reverse_of}
 use Rattle.geometry.specs.Place.{place_by}
@@ -18,7 +18,7 @@ use Rattle.engine.specs.Calls.{set_up, cleared, ticked}
 use Rattle.engine.proofs.Trackers.{estimate_for, estimate, all_new}
 use Rattle.history.specs.Tally.{Tally, start}
 use Rattle.history.proofs.Invariant.{Inv}
-use Rattle.history.proofs.History.{set_up-new, inv-set_up}
+use Rattle.history.proofs.History.{set_up-new, inv_set_up}
 
 -- what is known of it: forward and reverse entries; `head` and `passed`; the estimate of every place; for each bank a bound on the
 -- entries that have counted, and one on the accesses
@@ -33,16 +33,16 @@ pub record Picture : Type 0 where
 
 -- the trackers are as the picture says, and have nothing in `spill`
 pub record Counts (S : Settings) (σ : State) (estimates used acts : ℕ → ℕ) : Type 0 where
-  pub estimate-is : (x : ℕ) → x < S.n + S.q → estimate S σ x ≡ estimates x
-  pub spill-0 : (x : ℕ) → (tracker_at S σ x).spill ≡ 0
-  pub busy-most : (x : ℕ) → busy (tracker_at S σ x).counts ≤ used (bank_of S x)
-  pub acts-most : (x : ℕ) → (tracker_at S σ x).acts ≤ acts (bank_of S x)
+  pub estimate_is : (x : ℕ) → x < S.n + S.q → estimate S σ x ≡ estimates x
+  pub spill_0 : (x : ℕ) → (tracker_at S σ x).spill ≡ 0
+  pub busy_most : (x : ℕ) → busy (tracker_at S σ x).counts ≤ used (bank_of S x)
+  pub acts_most : (x : ℕ) → (tracker_at S σ x).acts ≤ acts (bank_of S x)
 
 -- all that is lent is as the picture has it
 pub record Shown (S : Settings) (σ : State) (P : Picture) : Type 0 where
-  pub forward-is : (x : ℕ) → x < S.n → forward_of σ x ≡ P.forward x
-  pub reverse-is : (s : ℕ) → s < S.q → reverse_of σ s ≡ P.reverse s
-  pub head-is : σ.control.head ≡ P.head
+  pub forward_is : (x : ℕ) → x < S.n → forward_of σ x ≡ P.forward x
+  pub reverse_is : (s : ℕ) → s < S.q → reverse_of σ s ≡ P.reverse s
+  pub head_is : σ.control.head ≡ P.head
   pub passed_is : σ.control.passed ≡ P.passed
   pub counts : Counts S σ P.estimates P.used P.acts
 
@@ -82,12 +82,12 @@ after_reads S P r n used acts = recounted P (plus_at (place_in S P r) n P.estima
 -- the bank of its place has an entry for it, and accesses left
 pub record Fits (S : Settings) (P : Picture) (r n : ℕ) (used acts : ℕ → ℕ) : Type 0 where
   pub row_in : r < S.n
-  pub used-kept : (c : ℕ) → P.used c ≤ used c
-  pub used-more : 0 < n → P.estimates (place_in S P r) ≡ 0 → P.used (bank_of S (place_in S P r)) < used (bank_of S (place_in S P r))
-  pub used-in : used (bank_of S (place_in S P r)) ≤ S.k
-  pub acts-kept : (c : ℕ) → P.acts c ≤ acts c
-  pub acts-more : P.acts (bank_of S (place_in S P r)) + n ≤ acts (bank_of S (place_in S P r))
-  pub acts-in : acts (bank_of S (place_in S P r)) ≤ S.l
+  pub used_kept : (c : ℕ) → P.used c ≤ used c
+  pub used_more : 0 < n → P.estimates (place_in S P r) ≡ 0 → P.used (bank_of S (place_in S P r)) < used (bank_of S (place_in S P r))
+  pub used_in : used (bank_of S (place_in S P r)) ≤ S.k
+  pub acts_kept : (c : ℕ) → P.acts c ≤ acts c
+  pub acts_more : P.acts (bank_of S (place_in S P r)) + n ≤ acts (bank_of S (place_in S P r))
+  pub acts_in : acts (bank_of S (place_in S P r)) ≤ S.l
 
 -- row r goes to slot `head`
 abbrev pub after_quarantine : Settings → Picture → ℕ → Picture
@@ -116,23 +116,23 @@ after_tick P =
     }
 
 -- the trackers of a new epoch
-counts-new : (S : Settings) (σ : State) → 1 ≤ S.b → Counts S (ticked S σ) (λ x. 0) (λ c. 0) (λ c. 0)
-counts-new S σ some =
+counts_new : (S : Settings) (σ : State) → 1 ≤ S.b → Counts S (ticked S σ) (λ x. 0) (λ c. 0) (λ c. 0)
+counts_new S σ some =
     record {
-      estimate-is = λ x b. all_new S σ some (λ t. estimate_for t x ≡ 0) (estimate-new S.k x) x;
-      spill-0 = all_new S σ some (λ t. t.spill ≡ 0) refl;
-      busy-most = all_new S σ some (λ t. busy t.counts ≤ 0) (omega (arith, busy-new S.k));
-      acts-most = all_new S σ some (λ t. t.acts ≤ 0) zero-le;
+      estimate_is = λ x b. all_new S σ some (λ t. estimate_for t x ≡ 0) (estimate-new S.k x) x;
+      spill_0 = all_new S σ some (λ t. t.spill ≡ 0) refl;
+      busy_most = all_new S σ some (λ t. busy t.counts ≤ 0) (omega (arith, busy_new S.k));
+      acts_most = all_new S σ some (λ t. t.acts ≤ 0) zero-le;
     }
 
 pub shown-tick : (S : Settings) (σ : State) (P : Picture) → Known S σ P → Shown S (ticked S σ) (after_tick P)
 shown-tick S σ P K =
     record {
-      forward-is = K.shown.forward-is;
-      reverse-is = K.shown.reverse-is;
-      head-is = K.shown.head-is;
+      forward_is = K.shown.forward_is;
+      reverse_is = K.shown.reverse_is;
+      head_is = K.shown.head_is;
       passed_is = refl;
-      counts = counts-new S σ K.inv.sound.ranges.b-low;
+      counts = counts_new S σ K.inv.sound.ranges.b_low;
     }
 
 -- ---- set-up: nothing is moved, and nothing counted
@@ -149,9 +149,9 @@ fresh =
       acts = λ c. 0;
     }
 
-pub known-set_up : (S : Settings) (σ : State) → S.w ≡ 1 → (set_up S σ).number ≡ 0 → Known S (set_up S σ).state fresh
-known-set_up S σ narrow z =
-    let I = inv-set_up S σ z in
+pub known_set_up : (S : Settings) (σ : State) → S.w ≡ 1 → (set_up S σ).number ≡ 0 → Known S (set_up S σ).state fresh
+known_set_up S σ narrow z =
+    let I = inv_set_up S σ z in
     record {
       narrow = narrow;
       τ₀ = start;
@@ -159,20 +159,20 @@ known-set_up S σ narrow z =
       inv = I;
       shown = subst (λ (σ' : State). Shown S σ' fresh) (set_up-new S σ z)
           (record {
-            forward-is = λ x b. get_or-replicate S.n x empty empty b;
-            reverse-is = λ s b. get_or-replicate S.q s empty empty b;
-            head-is = refl;
+            forward_is = λ x b. get_or-replicate S.n x empty empty b;
+            reverse_is = λ s b. get_or-replicate S.q s empty empty b;
+            head_is = refl;
             passed_is = refl;
-            counts = counts-new S (cleared S σ) I.sound.ranges.b-low;
+            counts = counts_new S (cleared S σ) I.sound.ranges.b_low;
           });
     }
 
 -- ---- the same memory told by the same estimates, and by bounds that are no lower
 
-pub known-again : {S : Settings} {σ : State} {P : Picture} {estimates used acts : ℕ → ℕ} → Known S σ P
+pub known_again : {S : Settings} {σ : State} {P : Picture} {estimates used acts : ℕ → ℕ} → Known S σ P
     → ((x : ℕ) → x < S.n + S.q → P.estimates x ≡ estimates x) → ((c : ℕ) → P.used c ≤ used c) → ((c : ℕ) → P.acts c ≤ acts c)
     → Known S σ (recounted P estimates used acts)
-known-again {S} K same more-used more-acts =
+known_again {S} K same more-used more-acts =
     let C = K.shown.counts in
     record {
       narrow = K.narrow;
@@ -180,15 +180,15 @@ known-again {S} K same more-used more-acts =
       τ = K.τ;
       inv = K.inv;
       shown = record {
-        forward-is = K.shown.forward-is;
-        reverse-is = K.shown.reverse-is;
-        head-is = K.shown.head-is;
+        forward_is = K.shown.forward_is;
+        reverse_is = K.shown.reverse_is;
+        head_is = K.shown.head_is;
         passed_is = K.shown.passed_is;
         counts = record {
-          estimate-is = λ x b. C.estimate-is x b ∙ same x b;
-          spill-0 = C.spill-0;
-          busy-most = λ x. omega (arith, C.busy-most x, more-used (bank_of S x));
-          acts-most = λ x. omega (arith, C.acts-most x, more-acts (bank_of S x));
+          estimate_is = λ x b. C.estimate_is x b ∙ same x b;
+          spill_0 = C.spill_0;
+          busy_most = λ x. omega (arith, C.busy_most x, more-used (bank_of S x));
+          acts_most = λ x. omega (arith, C.acts_most x, more-acts (bank_of S x));
         };
       };
     }

@@ -11,7 +11,7 @@ use Rattle.geometry.specs.declared.Settings.{Settings}
 use Rattle.geometry.specs.Entry.{empty}
 use Rattle.basics.proofs.Cases.{split, eq?, lt?}
 use Rattle.banks.specs.Banks.{bank_of}
-use Rattle.tracking.proofs.Tracking.{one-if}
+use Rattle.tracking.proofs.Tracking.{one_if}
 use Rattle.geometry.specs.Place.{place_by}
 use Rattle.history.specs.Tight.{one_short, each_read}
 use Rattle.history.proofs.Known.{Picture, plus_at, place_in, after_reads, Fits, after_quarantine}
@@ -44,26 +44,26 @@ module _ (b : ℕ) where
 
   -- how many of the rows below i are of bank c
   pub share : ℕ → ℕ → ℕ
-  share i c = one-if (ltb c i) + one-if (ltb (c + b) i)
+  share i c = one_if (ltb c i) + one_if (ltb (c + b) i)
 
-  pub share-none : (c : ℕ) → share 0 c ≡ 0
+  pub share_none : (c : ℕ) → share 0 c ≡ 0
   unfolding share
-  share-none c = rw (le-ltb c 0 zero-le, le-ltb (c + b) 0 zero-le)
+  share_none c = rw (le-ltb c 0 zero-le, le-ltb (c + b) 0 zero-le)
 
-  grows : (x i : ℕ) → one-if (ltb x i) ≤ one-if (ltb x (suc i))
+  grows : (x i : ℕ) → one_if (ltb x i) ≤ one_if (ltb x (suc i))
   grows x i =
       elim (lt? x i) [
         | inl k ↦ rw (lt-ltb x i k, lt-ltb x (suc i) (omega arith)) (le_refl 1)
         | inr k ↦ rw (le-ltb x i k) zero-le
       ]
 
-  share-grows : (i c : ℕ) → share i c ≤ share (suc i) c
+  share_grows : (i c : ℕ) → share i c ≤ share (suc i) c
   unfolding share
-  share-grows i c = omega (arith, grows c i, grows (c + b) i)
+  share_grows i c = omega (arith, grows c i, grows (c + b) i)
 
-  share-more : (i : ℕ) → i < 2 * b → share (suc i) (i % b) ≡ suc (share i (i % b))
+  share_more : (i : ℕ) → i < 2 * b → share (suc i) (i % b) ≡ suc (share i (i % b))
   unfolding share
-  share-more i low =
+  share_more i low =
       elim (below i low) [
         | inl k ↦
             rw (
@@ -81,12 +81,12 @@ module _ (b : ℕ) where
             )
       ]
 
-  one-most : (x i : ℕ) → one-if (ltb x i) ≤ 1
-  one-most x i = elim (split (ltb x i)) [ inl k ↦ rw k (le_refl 1) | inr k ↦ rw k zero-le ]
+  one_most : (x i : ℕ) → one_if (ltb x i) ≤ 1
+  one_most x i = elim (split (ltb x i)) [ inl k ↦ rw k (le_refl 1) | inr k ↦ rw k zero-le ]
 
-  share-most : (i c : ℕ) → share i c ≤ 2
+  share_most : (i c : ℕ) → share i c ≤ 2
   unfolding share
-  share-most i c = omega (arith, one-most c i, one-most (c + b) i)
+  share_most i c = omega (arith, one_most c i, one_most (c + b) i)
 
 -- ---- an epoch in which the rows below 2b go to slots, one after the other
 
@@ -96,7 +96,7 @@ pub record Round (b m : ℕ) : Type 0 where
   pub to : ℕ
   pub entry : ℕ → ℕ
   pub place_is : (x : ℕ) → x < 2 * b → place_by (one_short b (suc m)) (entry x) x ≡ from + x
-  pub bank-is : (x : ℕ) → (from + x) % b ≡ x % b
+  pub bank_is : (x : ℕ) → (from + x) % b ≡ x % b
   -- no row is in one of those slots, and the places lie before them
   pub apart : (x s : ℕ) → x < 2 * b → to ≤ s → s < 4 * b → entry x ≢ s
   pub before : from + 2 * b ≤ 4 * b + to
@@ -121,61 +121,61 @@ module _ {b m : ℕ} (W : Round b m) where
     at : place_in S P i ≡ W.from + i
     at = ap (λ (e : ℕ). place_by S e i) (T.rest i (le_refl i) low) ∙ W.place_is i low
 
-    bank-at : bank_of S (place_in S P i) ≡ i % b
+    bank_at : bank_of S (place_in S P i) ≡ i % b
     unfolding bank_of
-    bank-at = ap (λ (x : ℕ). x % b) at ∙ W.bank-is i
+    bank_at = ap (λ (x : ℕ). x % b) at ∙ W.bank_is i
 
     more : share b (suc i) (bank_of S (place_in S P i)) ≡ suc (share b i (bank_of S (place_in S P i)))
-    more = subst (λ (c : ℕ). share b (suc i) c ≡ suc (share b i c)) (sym bank-at) (share-more b i low)
+    more = subst (λ (c : ℕ). share b (suc i) c ≡ suc (share b i c)) (sym bank_at) (share_more b i low)
 
     pub fits : Fits S P i (suc m) (share b (suc i)) (λ c. share b (suc i) c * suc m)
     fits =
         let c : ℕ = bank_of S (place_in S P i) in
         record {
           row_in = omega arith;
-          used-kept = λ c. omega (arith, T.used c, share-grows b i c);
-          used-more = λ pos e. omega (arith, T.used c, more);
-          used-in = share-most b (suc i) c;
-          acts-kept = λ c. omega (arith, T.acts c, mul-le-mul_right (suc m) (share-grows b i c));
-          acts-more =
+          used_kept = λ c. omega (arith, T.used c, share_grows b i c);
+          used_more = λ pos e. omega (arith, T.used c, more);
+          used_in = share_most b (suc i) c;
+          acts_kept = λ c. omega (arith, T.acts c, mul-le-mul_right (suc m) (share_grows b i c));
+          acts_more =
               let next : share b (suc i) c * suc m ≡ share b i c * suc m + suc m =
               ap (λ (u : ℕ). u * suc m) more ∙ suc-mul (share b i c) (suc m) in
               omega (arith, T.acts c);
-          acts-in = mul-le-mul_right (suc m) (share-most b (suc i) c);
+          acts_in = mul-le-mul_right (suc m) (share_most b (suc i) c);
         }
 
     pub due : P.estimates (place_in S P i) + suc m ≡ suc m
     due = omega (arith, ap P.estimates at, T.cold (W.from + i) (le_refl (W.from + i)))
 
     module _ (room : W.to + i < S.q) where
-      head-is : P.head ≡ W.to + i
-      head-is = T.head ∙ mod-eq_of_lt room
+      head_is : P.head ≡ W.to + i
+      head_is = T.head ∙ mod-eq_of_lt room
 
       abbrev next : Picture
       next = after_quarantine S (after_reads S P i (suc m) (share b (suc i)) (λ c. share b (suc i) c * suc m)) i
 
       free : plus_at (place_in S P i) (suc m) P.estimates (S.n + P.head) < suc m
       free =
-          rw (ne_eqb (S.n + P.head) (place_in S P i) (λ e. omega (arith, head-is, at)))
-          (omega (arith, T.cold (S.n + P.head) (omega (arith, head-is))))
+          rw (ne_eqb (S.n + P.head) (place_in S P i) (λ e. omega (arith, head_is, at)))
+          (omega (arith, T.cold (S.n + P.head) (omega (arith, head_is))))
 
       goes_on : Stage (suc i) next
       goes_on =
           record {
-            head = ap (λ (x : ℕ). (x + 1) % S.q) head-is ∙ ap (λ (x : ℕ). x % S.q) (let one : W.to + i + 1 ≡ W.to + suc i = omega arith in one);
+            head = ap (λ (x : ℕ). (x + 1) % S.q) head_is ∙ ap (λ (x : ℕ). x % S.q) (let one : W.to + i + 1 ≡ W.to + suc i = omega arith in one);
             passed = omega (arith, T.passed);
             went = λ x b. elim (eq? x i) [
-              | inl e ↦ rw (eq-eqb x i e) (omega (arith, head-is))
-              | inr k ↦ rw (ne_eqb x i k, ne_eqb (P.forward x) P.head (λ e. omega (arith, head-is, T.went x (omega arith)))) (T.went x (omega arith))
+              | inl e ↦ rw (eq-eqb x i e) (omega (arith, head_is))
+              | inr k ↦ rw (ne_eqb x i k, ne_eqb (P.forward x) P.head (λ e. omega (arith, head_is, T.went x (omega arith)))) (T.went x (omega arith))
             ];
             rest = λ x low b.
                 rw (
                   ne_eqb x i (λ e. omega arith),
-                  ne_eqb (P.forward x) P.head (λ e. W.apart x (W.to + i) b (omega arith) (omega arith) (sym (T.rest x (omega arith) b) ∙ e ∙ head-is)),
+                  ne_eqb (P.forward x) P.head (λ e. W.apart x (W.to + i) b (omega arith) (omega arith) (sym (T.rest x (omega arith) b) ∙ e ∙ head_is)),
                 )
                 (T.rest x (omega arith) b);
             vacant = λ s b.
-                rw (ne_eqb s P.head (λ e. omega (arith, head-is)))
+                rw (ne_eqb s P.head (λ e. omega (arith, head_is)))
                 (elim (split (eqb s (P.forward i))) [ inl k ↦ rw k | inr k ↦ rw k (T.vacant s (omega arith)) ]);
             worn = λ x b. elim (eq? x i) [
               | inl e ↦ rw (eq-eqb (W.from + x) (place_in S P i) (omega (arith, at))) (omega (arith, T.cold (W.from + x) (omega arith)))
@@ -197,7 +197,7 @@ module _ {b m : ℕ} (W : Round b m) where
         on.0,
         (
           on.1.0,
-          go (fits i T low) (due i T low) (zero-lt-suc m) (free i T low here) (omega (arith, T.passed)) (head-is i T low here)
-              (T.vacant P.head (omega (arith, head-is i T low here))) on.1.1,
+          go (fits i T low) (due i T low) (zero-lt-suc m) (free i T low here) (omega (arith, T.passed)) (head_is i T low here)
+              (T.vacant P.head (omega (arith, head_is i T low here))) on.1.1,
         ),
       )

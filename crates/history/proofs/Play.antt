@@ -16,8 +16,8 @@ use Rattle.basics.specs.Lists.{Each}
 use Rattle.history.specs.Window.{fed, ticks_in}
 use Rattle.history.specs.Tight.{Part, reads, ticks, read_of, calls_of}
 use Rattle.history.proofs.Known.{Picture, Known, plus_at, place_in, after_reads, Fits, after_quarantine, after_tick}
-use Rattle.history.proofs.Reading.{on_access, on_stay, on_want, on_tick, Leads, joined, one-tick}
-use Rattle.history.proofs.Reading.{read_stays, read_goes, read-wants}
+use Rattle.history.proofs.Reading.{on_access, on_stay, on_want, on_tick, Leads, joined, one_tick}
+use Rattle.history.proofs.Reading.{read_stays, read_goes, read_wants}
 
 -- ---- courses
 
@@ -67,7 +67,7 @@ module _ {S : Settings} where
   pub played : {P P' : Picture} {ps : List Part} {fs : List Course} → Play S P ps fs P' → {σ : State} → Known S σ P
       → Leads S σ (calls_of ps) (reports_of ps fs) P'
   played done K = record { told_is = refl; known = K }
-  played (tick rest) K = let R = one-tick K in joined R (played rest R.known)
+  played (tick rest) K = let R = one_tick K in joined R (played rest R.known)
   played (stay {r = r} {n = n} F low rest) K = let R = read_stays S r n K F low in joined R (played rest R.known)
   played (go {n = zero} F due some free room at held rest) K = absurd (omega arith)
   played (go {P = P} {r = r} {n = suc n} {d = d} {v = v} {used = used} {acts = acts} F due some free room at held rest) {σ} K =
@@ -81,7 +81,7 @@ module _ {S : Settings} where
         known = R.known;
       } in
       joined R' (played rest R'.known)
-  played (want {r = r} {n = n} F due full rest) K = let R = read-wants S r n K F due full in joined R (played rest R.known)
+  played (want {r = r} {n = n} F due full rest) K = let R = read_wants S r n K F due full in joined R (played rest R.known)
 
   -- one list after another
   pub then : {P P₁ P' : Picture} {ps qs : List Part} {fs gs : List Course} → Play S P ps fs P₁ → Play S P₁ qs gs P'
@@ -129,69 +129,69 @@ ticks_of (reads r n ∷ ps) (f ∷ fs) = ticks_of ps fs
 abbrev Calm : List Report → Type 0
 Calm es = Each (λ e. ends_epoch e ≡ false) es
 
-calm-reads : (r n : ℕ) → Calm (replicate n (on_stay r))
-calm-reads r zero = tt
-calm-reads r (suc n) = (refl, calm-reads r n)
+calm_reads : (r n : ℕ) → Calm (replicate n (on_stay r))
+calm_reads r zero = tt
+calm_reads r (suc n) = (refl, calm_reads r n)
 
-calm-then : (r n : ℕ) (e : Report) → ends_epoch e ≡ false → Calm (replicate n (on_stay r) ++ e ∷ [])
-calm-then r zero e k = (k, tt)
-calm-then r (suc n) e k = (refl, calm-then r n e k)
+calm_then : (r n : ℕ) (e : Report) → ends_epoch e ≡ false → Calm (replicate n (on_stay r) ++ e ∷ [])
+calm_then r zero e k = (k, tt)
+calm_then r (suc n) e k = (refl, calm_then r n e k)
 
 calm : (r n : ℕ) (f : Course) → Calm (answers_of r n f)
-calm r n stays = calm-reads r n
+calm r n stays = calm_reads r n
 calm r zero (goes d v) = tt
-calm r (suc n) (goes d v) = calm-then r n (on_access r d v) refl
+calm r (suc n) (goes d v) = calm_then r n (on_access r d v) refl
 calm r zero wants = tt
-calm r (suc n) wants = calm-then r n (on_want r) refl
+calm r (suc n) wants = calm_then r n (on_want r) refl
 
-ticks-calm : (xs es : List Report) → Calm xs → ticks_in (xs ++ es) ≡ ticks_in es
-ticks-calm [] es k = refl
-ticks-calm (x ∷ xs) es k = rw k.0 (ticks-calm xs es k.1)
+ticks_calm : (xs es : List Report) → Calm xs → ticks_in (xs ++ es) ≡ ticks_in es
+ticks_calm [] es k = refl
+ticks_calm (x ∷ xs) es k = rw k.0 (ticks_calm xs es k.1)
 
 module _ (S : Settings) where
   fed-append : (xs es : List Report) (τ : Tally) → fed S τ (xs ++ es) ≡ fed S (fed S τ xs) es
   fed-append [] es τ = refl
   fed-append (x ∷ xs) es τ = fed-append xs es (feed S τ x)
 
-  epochs-calm : (xs es : List Report) (τ₀ τ : Tally) → Calm xs → epochs S τ₀ τ (xs ++ es) ≡ epochs S τ₀ (fed S τ xs) es
-  epochs-calm [] es τ₀ τ k = refl
-  epochs-calm (x ∷ xs) es τ₀ τ k = rw k.0 (epochs-calm xs es τ₀ (feed S τ x) k.1)
+  epochs_calm : (xs es : List Report) (τ₀ τ : Tally) → Calm xs → epochs S τ₀ τ (xs ++ es) ≡ epochs S τ₀ (fed S τ xs) es
+  epochs_calm [] es τ₀ τ k = refl
+  epochs_calm (x ∷ xs) es τ₀ τ k = rw k.0 (epochs_calm xs es τ₀ (feed S τ x) k.1)
 
-  fed-stays : (r n : ℕ) (τ : Tally) → fed S τ (replicate n (on_stay r)) ≡ read_at τ r n
-  fed-stays r zero τ = ap (with_openings τ) (fun_ext (λ x. let none : τ.openings x ≡ τ.openings x + 0 * hit (τ.place r) x = omega arith in none))
-  fed-stays r (suc n) τ =
-      fed-stays r n (feed S τ (on_stay r))
+  fed_stays : (r n : ℕ) (τ : Tally) → fed S τ (replicate n (on_stay r)) ≡ read_at τ r n
+  fed_stays r zero τ = ap (with_openings τ) (fun_ext (λ x. let none : τ.openings x ≡ τ.openings x + 0 * hit (τ.place r) x = omega arith in none))
+  fed_stays r (suc n) τ =
+      fed_stays r n (feed S τ (on_stay r))
       ∙ ap (with_openings τ) (fun_ext (λ x.
       let h : ℕ = hit (τ.place r) x in
       let more : τ.openings x + (h + 0) + n * h ≡ τ.openings x + suc n * h = omega (arith, suc-mul n h) in
       more))
 
-  fed-one : (r n : ℕ) (f : Course) (τ : Tally) → fed S τ (answers_of r n f) ≡ tally_of S τ r n f
-  fed-one r n stays τ = fed-stays r n τ
-  fed-one r zero (goes d v) τ = refl
-  fed-one r (suc n) (goes d v) τ =
-      fed-append (replicate n (on_stay r)) (on_access r d v ∷ []) τ ∙ ap (λ (τ : Tally). feed S τ (on_access r d v)) (fed-stays r n τ)
-  fed-one r zero wants τ = refl
-  fed-one r (suc n) wants τ = fed-append (replicate n (on_stay r)) (on_want r ∷ []) τ ∙ fed-stays r n τ
+  fed_one : (r n : ℕ) (f : Course) (τ : Tally) → fed S τ (answers_of r n f) ≡ tally_of S τ r n f
+  fed_one r n stays τ = fed_stays r n τ
+  fed_one r zero (goes d v) τ = refl
+  fed_one r (suc n) (goes d v) τ =
+      fed-append (replicate n (on_stay r)) (on_access r d v ∷ []) τ ∙ ap (λ (τ : Tally). feed S τ (on_access r d v)) (fed_stays r n τ)
+  fed_one r zero wants τ = refl
+  fed_one r (suc n) wants τ = fed-append (replicate n (on_stay r)) (on_want r ∷ []) τ ∙ fed_stays r n τ
 
-  pub fed-all : (ps : List Part) (fs : List Course) (τ : Tally) → fed S τ (reports_of ps fs) ≡ tallied S τ ps fs
-  fed-all [] fs τ = refl
-  fed-all (ticks ∷ ps) fs τ = fed-all ps fs (next_epoch τ)
-  fed-all (reads r n ∷ ps) [] τ = refl
-  fed-all (reads r n ∷ ps) (f ∷ fs) τ =
-      fed-append (answers_of r n f) (reports_of ps fs) τ ∙ ap (λ (τ : Tally). fed S τ (reports_of ps fs)) (fed-one r n f τ)
-      ∙ fed-all ps fs (tally_of S τ r n f)
+  pub fed_all : (ps : List Part) (fs : List Course) (τ : Tally) → fed S τ (reports_of ps fs) ≡ tallied S τ ps fs
+  fed_all [] fs τ = refl
+  fed_all (ticks ∷ ps) fs τ = fed_all ps fs (next_epoch τ)
+  fed_all (reads r n ∷ ps) [] τ = refl
+  fed_all (reads r n ∷ ps) (f ∷ fs) τ =
+      fed-append (answers_of r n f) (reports_of ps fs) τ ∙ ap (λ (τ : Tally). fed S τ (reports_of ps fs)) (fed_one r n f τ)
+      ∙ fed_all ps fs (tally_of S τ r n f)
 
-  pub epochs-all : (ps : List Part) (fs : List Course) (τ₀ τ : Tally) → epochs S τ₀ τ (reports_of ps fs) ≡ epochs_of S τ₀ τ ps fs
-  epochs-all [] fs τ₀ τ = refl
-  epochs-all (ticks ∷ ps) fs τ₀ τ = ap (λ (es : List Stretch). record { first = τ₀; last = next_epoch τ } ∷ es) (epochs-all ps fs (next_epoch τ) (next_epoch τ))
-  epochs-all (reads r n ∷ ps) [] τ₀ τ = refl
-  epochs-all (reads r n ∷ ps) (f ∷ fs) τ₀ τ =
-      epochs-calm (answers_of r n f) (reports_of ps fs) τ₀ τ (calm r n f) ∙ ap (λ (τ : Tally). epochs S τ₀ τ (reports_of ps fs)) (fed-one r n f τ)
-      ∙ epochs-all ps fs τ₀ (tally_of S τ r n f)
+  pub epochs_all : (ps : List Part) (fs : List Course) (τ₀ τ : Tally) → epochs S τ₀ τ (reports_of ps fs) ≡ epochs_of S τ₀ τ ps fs
+  epochs_all [] fs τ₀ τ = refl
+  epochs_all (ticks ∷ ps) fs τ₀ τ = ap (λ (es : List Stretch). record { first = τ₀; last = next_epoch τ } ∷ es) (epochs_all ps fs (next_epoch τ) (next_epoch τ))
+  epochs_all (reads r n ∷ ps) [] τ₀ τ = refl
+  epochs_all (reads r n ∷ ps) (f ∷ fs) τ₀ τ =
+      epochs_calm (answers_of r n f) (reports_of ps fs) τ₀ τ (calm r n f) ∙ ap (λ (τ : Tally). epochs S τ₀ τ (reports_of ps fs)) (fed_one r n f τ)
+      ∙ epochs_all ps fs τ₀ (tally_of S τ r n f)
 
-pub ticks-all : (ps : List Part) (fs : List Course) → ticks_in (reports_of ps fs) ≡ ticks_of ps fs
-ticks-all [] fs = refl
-ticks-all (ticks ∷ ps) fs = ap suc (ticks-all ps fs)
-ticks-all (reads r n ∷ ps) [] = refl
-ticks-all (reads r n ∷ ps) (f ∷ fs) = ticks-calm (answers_of r n f) (reports_of ps fs) (calm r n f) ∙ ticks-all ps fs
+pub ticks_all : (ps : List Part) (fs : List Course) → ticks_in (reports_of ps fs) ≡ ticks_of ps fs
+ticks_all [] fs = refl
+ticks_all (ticks ∷ ps) fs = ap suc (ticks_all ps fs)
+ticks_all (reads r n ∷ ps) [] = refl
+ticks_all (reads r n ∷ ps) (f ∷ fs) = ticks_calm (answers_of r n f) (reports_of ps fs) (calm r n f) ∙ ticks_all ps fs

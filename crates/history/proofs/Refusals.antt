@@ -10,8 +10,8 @@ use Rattle.geometry.specs.declared.Settings.{Settings}
 use Rattle.engine.specs.State.{State}
 use Rattle.engine.specs.Ladder.{set_up_number, inspect_number}
 use Rattle.engine.specs.Calls as calls
-use Rattle.engine.proofs.Facts.{fit_all, tick-all, access-all, inspect-all}
-use Rattle.engine.proofs.Parts.{part-long, width_some}
+use Rattle.engine.proofs.Facts.{fit_all, tick_all, access_all, inspect_all}
+use Rattle.engine.proofs.Parts.{part_long, width_some}
 use Rattle.basics.specs.Lists.{OneOf}
 use Rattle.history.specs.Run.{access, look, Call, rank, tick, asked_of, row_looked, figureless}
 use Rattle.history.specs.Demand1.{allowed, buffer_of, Demand1}
@@ -19,9 +19,9 @@ use Rattle.history.proofs.Groups.{ladder, step-number, refused-step}
 
 -- ---- the numbers
 
-ladder-allowed : (S : Settings) (σ : State) (c : Call) → OneOf (allowed c) (ladder S σ c)
-ladder-allowed S σ (rank (access a)) =
-    access-all (OneOf (0 ∷ 1 ∷ 2 ∷ 3 ∷ 4 ∷ 5 ∷ 6 ∷ 7 ∷ 8 ∷ 9 ∷ []))
+ladder_allowed : (S : Settings) (σ : State) (c : Call) → OneOf (allowed c) (ladder S σ c)
+ladder_allowed S σ (rank (access a)) =
+    access_all (OneOf (0 ∷ 1 ∷ 2 ∷ 3 ∷ 4 ∷ 5 ∷ 6 ∷ 7 ∷ 8 ∷ 9 ∷ []))
     (inl refl)
     (inr (inl refl))
     (inr (inr (inl refl)))
@@ -33,12 +33,12 @@ ladder-allowed S σ (rank (access a)) =
     (inr (inr (inr (inr (inr (inr (inr (inr (inl refl)))))))))
     (inr (inr (inr (inr (inr (inr (inr (inr (inr (inl refl))))))))))
     S σ (asked_of S a)
-ladder-allowed S σ (rank (look x)) =
-    inspect-all (OneOf (0 ∷ 1 ∷ 2 ∷ 3 ∷ 4 ∷ 5 ∷ 7 ∷ []))
+ladder_allowed S σ (rank (look x)) =
+    inspect_all (OneOf (0 ∷ 1 ∷ 2 ∷ 3 ∷ 4 ∷ 5 ∷ 7 ∷ []))
     (inl refl) (inr (inl refl)) (inr (inr (inl refl))) (inr (inr (inr (inl refl)))) (inr (inr (inr (inr (inl refl)))))
     (inr (inr (inr (inr (inr (inl refl)))))) (inr (inr (inr (inr (inr (inr (inl refl))))))) S σ (row_looked x)
-ladder-allowed S σ tick =
-    tick-all (OneOf (0 ∷ 1 ∷ 2 ∷ 3 ∷ 4 ∷ []))
+ladder_allowed S σ tick =
+    tick_all (OneOf (0 ∷ 1 ∷ 2 ∷ 3 ∷ 4 ∷ []))
     (inl refl) (inr (inl refl)) (inr (inr (inl refl))) (inr (inr (inr (inl refl)))) (inr (inr (inr (inr (inl refl))))) S σ
 
 -- ---- set-up
@@ -53,21 +53,21 @@ set_up-allowed S σ = fit_all (OneOf (0 ∷ 1 ∷ 2 ∷ 3 ∷ [])) (inl refl) (i
 
 -- ---- inspect's part
 
-part-empty : (S : Settings) (σ : State) (r : ℕ) → inspect_number S σ r ≢ 0 → length (calls.inspect_part S σ r) ≡ 0
+part_empty : (S : Settings) (σ : State) (r : ℕ) → inspect_number S σ r ≢ 0 → length (calls.inspect_part S σ r) ≡ 0
 unfolding calls.inspect_part
-part-empty S σ r n = rw (ne_eqb (inspect_number S σ r) 0 n)
+part_empty S σ r n = rw (ne_eqb (inspect_number S σ r) 0 n)
 
-part-some : (S : Settings) (σ : State) (r : ℕ) → inspect_number S σ r ≡ 0 → length (calls.inspect_part S σ r) ≢ 0
-part-some S σ r z e = omega (arith, part-long S σ r _ refl z, width_some S σ r _ refl z)
+part_some : (S : Settings) (σ : State) (r : ℕ) → inspect_number S σ r ≡ 0 → length (calls.inspect_part S σ r) ≢ 0
+part_some S σ r z e = omega (arith, part_long S σ r _ refl z, width_some S σ r _ refl z)
 
-pub demand-1 : Demand1
-demand-1 =
+pub demand_1 : Demand1
+demand_1 =
     record {
       set_up-number = set_up-allowed;
-      set_up-refused = set_up-kept;
-      number = λ S σ c. rw (step-number S σ c) (ladder-allowed S σ c);
+      set_up_refused = set_up-kept;
+      number = λ S σ c. rw (step-number S σ c) (ladder_allowed S σ c);
       refused = λ S σ c n. refused-step S σ c (λ z. n (step-number S σ c ∙ z))
           ∙ ap (λ (x : ℕ). record { state = σ; answer = figureless x (buffer_of c) }) (sym (step-number S σ c));
-      part_none = part-empty;
-      part-some = part-some;
+      part_none = part_empty;
+      part_some = part_some;
     }

@@ -24,23 +24,23 @@ module _ {S : Settings} {P : Picture} {r n : ℕ} (u : ℕ) (fit : (ltb r S.n &&
   fits =
       record {
         row_in = ltb-true r S.n (and_left (ltb r S.n) (leb u S.k) fit);
-        used-kept = kept;
-        used-more = more;
-        used-in = leb-true u S.k (and_right (ltb r S.n) (leb u S.k) fit);
-        acts-kept = λ c. omega arith;
-        acts-more = omega arith;
-        acts-in = left;
+        used_kept = kept;
+        used_more = more;
+        used_in = leb-true u S.k (and_right (ltb r S.n) (leb u S.k) fit);
+        acts_kept = λ c. omega arith;
+        acts_more = omega arith;
+        acts_in = left;
       }
 
-  pub stay-at : {P' : Picture} {ps : List Part} {fs : List Course} → P.estimates (place_in S P r) + n < S.a
+  pub stay_at : {P' : Picture} {ps : List Part} {fs : List Course} → P.estimates (place_in S P r) + n < S.a
       → Play S (after_reads S P r n (λ c. u) (λ c. P.acts c + n)) ps fs P' → Play S P (reads r n ∷ ps) (stays ∷ fs) P'
-  stay-at low rest = stay fits low rest
+  stay_at low rest = stay fits low rest
 
-  pub go-at : {P' : Picture} {ps : List Part} {fs : List Course} {d v : ℕ} → P.estimates (place_in S P r) + n ≡ S.a → 0 < n
+  pub go_at : {P' : Picture} {ps : List Part} {fs : List Course} {d v : ℕ} → P.estimates (place_in S P r) + n ≡ S.a → 0 < n
       → plus_at (place_in S P r) n P.estimates (S.n + P.head) < S.a → ltb P.passed S.q ≡ true
       → P.head ≡ d → P.reverse P.head ≡ v
       → Play S (after_quarantine S (after_reads S P r n (λ c. u) (λ c. P.acts c + n)) r) ps fs P' → Play S P (reads r n ∷ ps) (goes d v ∷ fs) P'
-  go-at due some free room at held rest = go fits due some free (omega (arith, ltb-true P.passed S.q room)) at held rest
+  go_at due some free room at held rest = go fits due some free (omega (arith, ltb-true P.passed S.q room)) at held rest
 
 -- ---- the courses of the lists
 
@@ -77,16 +77,16 @@ module _ (b m : ℕ) where
   abbrev pub fill : (P : Picture) × Play Two fresh (two_filled (suc m)) filling P
   fill = (
     _,
-    go-at 1 refl (λ c. omega arith) (λ some e. omega arith) (omega arith) (omega arith) (omega arith) (omega arith) refl refl refl
-        (go-at 2 refl (λ c. omega arith) (λ some e. omega arith) (omega arith) (omega arith) (omega arith) (omega arith) refl refl refl
+    go_at 1 refl (λ c. omega arith) (λ some e. omega arith) (omega arith) (omega arith) (omega arith) (omega arith) refl refl refl
+        (go_at 2 refl (λ c. omega arith) (λ some e. omega arith) (omega arith) (omega arith) (omega arith) (omega arith) refl refl refl
         (tick done)),
   )
 
   pub home-play : (P : Picture) × Play Two fill.0 (home_parts (suc m)) home_courses P
   home-play = (
     _,
-    go-at 1 refl (λ c. omega arith) (λ some e. omega arith) (omega arith) (omega arith) (omega arith) (omega arith) refl refl refl
-        (go-at 2 refl (λ c. omega arith) (λ some e. omega arith) (omega arith) (omega arith) (omega arith) (omega arith) refl refl refl
+    go_at 1 refl (λ c. omega arith) (λ some e. omega arith) (omega arith) (omega arith) (omega arith) (omega arith) refl refl refl
+        (go_at 2 refl (λ c. omega arith) (λ some e. omega arith) (omega arith) (omega arith) (omega arith) (omega arith) refl refl refl
         done),
   )
 
@@ -97,20 +97,20 @@ module _ (b m : ℕ) where
   abbrev pub slot-play : (P : Picture) × Play Two fill.0 (slot_parts (suc m)) slot_courses P
   slot-play = (
     _,
-    stay-at entries (rw (le-leb entries 2 (omega arith))) (λ c. omega arith) (λ some e. omega arith) (omega arith) (omega arith)
-        (go-at (suc entries) (rw (le-leb (suc entries) 2 (omega arith))) (λ c. omega arith) (λ some e. omega arith)
+    stay_at entries (rw (le-leb entries 2 (omega arith))) (λ c. omega arith) (λ some e. omega arith) (omega arith) (omega arith)
+        (go_at (suc entries) (rw (le-leb (suc entries) 2 (omega arith))) (λ c. omega arith) (λ some e. omega arith)
         (omega arith) (omega arith) (omega arith) (omega arith) refl refl refl
-        (go-at 2 refl (λ c. omega arith) (λ some e. omega arith) (omega arith) (omega arith) (omega arith) (omega arith) refl refl refl
+        (go_at 2 refl (λ c. omega arith) (λ some e. omega arith) (omega arith) (omega arith) (omega arith) (omega arith) refl refl refl
         done)),
   )
 
-  pub slot-play-over : (P : Picture) × Play Two fill.0 (slot_parts_over (suc m)) slot_courses_over P
-  slot-play-over = (
+  pub slot-play_over : (P : Picture) × Play Two fill.0 (slot_parts_over (suc m)) slot_courses_over P
+  slot-play_over = (
     _,
     then slot-play.1
         (tick
-        (go-at 1 refl (λ c. omega arith) (λ some e. omega arith) (omega arith) (omega arith) (omega arith) (omega arith) refl refl refl
-        (go-at 2 refl (λ c. omega arith) (λ some e. omega arith) (omega arith) (omega arith) (omega arith) (omega arith) refl refl refl
+        (go_at 1 refl (λ c. omega arith) (λ some e. omega arith) (omega arith) (omega arith) (omega arith) (omega arith) refl refl refl
+        (go_at 2 refl (λ c. omega arith) (λ some e. omega arith) (omega arith) (omega arith) (omega arith) (omega arith) refl refl refl
         done))),
   )
 
@@ -120,24 +120,24 @@ module _ (b m : ℕ) where
   abbrev pub Three : Settings
   Three = three_slots b (suc m)
 
-  abbrev pub fill-all : (P : Picture) × Play Three fresh (three_filled (suc m)) filling_all P
-  fill-all = (
+  abbrev pub fill_all : (P : Picture) × Play Three fresh (three_filled (suc m)) filling_all P
+  fill_all = (
     _,
-    go-at 1 refl (λ c. omega arith) (λ some e. omega arith) (omega arith) (omega arith) (omega arith) (omega arith) refl refl refl
-        (go-at 2 refl (λ c. omega arith) (λ some e. omega arith) (omega arith) (omega arith) (omega arith) (omega arith) refl refl refl
-        (go-at 3 refl (λ c. omega arith) (λ some e. omega arith) (omega arith) (omega arith) (omega arith) (omega arith) refl refl refl
+    go_at 1 refl (λ c. omega arith) (λ some e. omega arith) (omega arith) (omega arith) (omega arith) (omega arith) refl refl refl
+        (go_at 2 refl (λ c. omega arith) (λ some e. omega arith) (omega arith) (omega arith) (omega arith) (omega arith) refl refl refl
+        (go_at 3 refl (λ c. omega arith) (λ some e. omega arith) (omega arith) (omega arith) (omega arith) (omega arith) refl refl refl
         (tick done))),
   )
 
-  pub home-play-over : (P : Picture) × Play Three fill-all.0 (home_parts_over (suc m)) home_courses_over P
-  home-play-over = (
+  pub home-play_over : (P : Picture) × Play Three fill_all.0 (home_parts_over (suc m)) home_courses_over P
+  home-play_over = (
     _,
-    go-at 1 refl (λ c. omega arith) (λ some e. omega arith) (omega arith) (omega arith) (omega arith) (omega arith) refl refl refl
-        (go-at 2 refl (λ c. omega arith) (λ some e. omega arith) (omega arith) (omega arith) (omega arith) (omega arith) refl refl refl
-        (go-at 3 refl (λ c. omega arith) (λ some e. omega arith) (omega arith) (omega arith) (omega arith) (omega arith) refl refl refl
+    go_at 1 refl (λ c. omega arith) (λ some e. omega arith) (omega arith) (omega arith) (omega arith) (omega arith) refl refl refl
+        (go_at 2 refl (λ c. omega arith) (λ some e. omega arith) (omega arith) (omega arith) (omega arith) (omega arith) refl refl refl
+        (go_at 3 refl (λ c. omega arith) (λ some e. omega arith) (omega arith) (omega arith) (omega arith) (omega arith) refl refl refl
         (tick
-        (go-at 1 refl (λ c. omega arith) (λ some e. omega arith) (omega arith) (omega arith) (omega arith) (omega arith) refl refl refl
-        (go-at 2 refl (λ c. omega arith) (λ some e. omega arith) (omega arith) (omega arith) (omega arith) (omega arith) refl refl refl
-        (go-at 3 refl (λ c. omega arith) (λ some e. omega arith) (omega arith) (omega arith) (omega arith) (omega arith) refl refl refl
+        (go_at 1 refl (λ c. omega arith) (λ some e. omega arith) (omega arith) (omega arith) (omega arith) (omega arith) refl refl refl
+        (go_at 2 refl (λ c. omega arith) (λ some e. omega arith) (omega arith) (omega arith) (omega arith) (omega arith) refl refl refl
+        (go_at 3 refl (λ c. omega arith) (λ some e. omega arith) (omega arith) (omega arith) (omega arith) (omega arith) refl refl refl
         done)))))),
   )

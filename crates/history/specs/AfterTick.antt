@@ -1,5 +1,5 @@
 -- Document 01, 'Where each call can stop': 'An access refused with 9 is accepted, given sound tables, if it is the first call after
--- a tick.' The proofs are `accepted-after_tick` and `nine-is_good` of proofs/AfterTick.antt; the same of the C functions is
+-- a tick.' The proofs are `accepted_after_tick` and `nine_is_good` of proofs/AfterTick.antt; the same of the C functions is
 -- `AcceptedAfterTickServed` and `NineIsGoodServed` of crate `served`.
 -- Assumes nothing.
 use Rattle.std.specs.Prelude.{◌<◌, ◌≡◌, false}

@@ -1,5 +1,5 @@
 -- Demand 1, as one claim: any call with any settings, arguments and lent memory, sound or not, gets the service or one
--- refusal by number. Its proof is `demand-1` of proofs/Refusals.antt.
+-- refusal by number. Its proof is `demand_1` of proofs/Refusals.antt.
 -- Assumes nothing.
 use Rattle.std.specs.Prelude.{ℕ, ◌≡◌, ◌≢◌, List, [], ◌∷◌, length}
 use Rattle.geometry.specs.declared.Settings.{Settings}
@@ -29,7 +29,7 @@ buffer_of tick = []
 pub record Demand1 : Type 0 where
   -- set-up's numbers, and that a set-up that is refused changes nothing
   pub set_up-number : (S : Settings) (σ : State) → OneOf (0 ∷ 1 ∷ 2 ∷ 3 ∷ []) (set_up S σ).number
-  pub set_up-refused : (S : Settings) (σ : State) → (set_up S σ).number ≢ 0 → (set_up S σ).state ≡ σ
+  pub set_up_refused : (S : Settings) (σ : State) → (set_up S σ).number ≢ 0 → (set_up S σ).state ≡ σ
   -- the numbers of the other calls
   pub number : (S : Settings) (σ : State) (c : Call) → OneOf (allowed c) (step S σ c).answer.number
   -- 'Control record and all lent memory remain as before the call, the read buffer too. Beside the number a refusal holds
@@ -38,4 +38,4 @@ pub record Demand1 : Type 0 where
       → step S σ c ≡ record { state = σ; answer = figureless (step S σ c).answer.number (buffer_of c) }
   -- 'the part has length 0 exactly when the number isn't 0'
   pub part_none : (S : Settings) (σ : State) (r : ℕ) → inspect_number S σ r ≢ 0 → length (inspect_part S σ r) ≡ 0
-  pub part-some : (S : Settings) (σ : State) (r : ℕ) → inspect_number S σ r ≡ 0 → length (inspect_part S σ r) ≢ 0
+  pub part_some : (S : Settings) (σ : State) (r : ℕ) → inspect_number S σ r ≡ 0 → length (inspect_part S σ r) ≢ 0

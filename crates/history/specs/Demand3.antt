@@ -1,4 +1,4 @@
--- Demand 3, as one claim about a list of calls as a whole. Its proof is `demand-3` of proofs/History.antt; the same of
+-- Demand 3, as one claim about a list of calls as a whole. Its proof is `demand_3` of proofs/History.antt; the same of
 -- what a C caller sees is `Demand3Served` of crate `served`.
 -- Assumes nothing.
 use Rattle.std.specs.Prelude.{ℕ, ◌+◌, ◌*◌, ◌/◌, ◌≤◌, ◌<◌, ◌≡◌, List, [], ◌∷◌, map}

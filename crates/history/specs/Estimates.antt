@@ -66,7 +66,7 @@ pub record Conclusions (S : Settings) (accesses latest between spill : ℕ) (ans
   pub least : answer.estimate ≤ accesses + spill
   -- where there is none, `spill` stands for it: it is at least the accesses, and has risen by at least one for each
   pub few : answer.estimate ≡ 0 → accesses ≤ spill
-  pub spill-above : answer.estimate ≡ 0 → latest + between < spill
+  pub spill_above : answer.estimate ≡ 0 → latest + between < spill
   -- and `spill` is below A
   pub below : spill < S.a
 

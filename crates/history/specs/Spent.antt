@@ -1,5 +1,5 @@
 -- What Q slots guarantee, however few: no access gets 9 early in an epoch. With as many slots as `Kept` asks for (`enough`) none
--- ever does; with 16 banks and document 000's timing Q cannot be that large. The proof is `not-spent-early` of proofs/Spent.antt;
+-- ever does; with 16 banks and document 000's timing Q cannot be that large. The proof is `not_spent_early` of proofs/Spent.antt;
 -- the same of what a C caller sees is `NotSpentEarlyServed` of crate `served`.
 -- Assumes nothing.
 use Rattle.std.specs.Prelude.{ℕ, suc, ◌+◌, ◌*◌, ◌≤◌, ◌≡◌, cond, List, [], ◌∷◌, eqb}

@@ -121,10 +121,10 @@ pub record AllReached (Reached : Settings → List Part → (List Event → Type
   pub slot : Reached (two_slots b a) (two_filled a ++ slot_parts a)
       (SomeEpoch (two_slots b a) (λ e. openings_in e (slot_row (two_slots b a) 0) ≡ a + 3))
   -- some stretch over one tick opens a home row exactly 2A + 4 times
-  pub home-over-tick : Reached (three_slots b a) (three_filled a ++ home_parts_over a)
+  pub home_over_tick : Reached (three_slots b a) (three_filled a ++ home_parts_over a)
       (OverOneTick (three_slots b a) (home_row 0) (2 * a + 4))
   -- .. and a slot exactly 2A + 5 times
-  pub slot-over-tick : Reached (two_slots b a) (two_filled a ++ slot_parts_over a)
+  pub slot_over_tick : Reached (two_slots b a) (two_filled a ++ slot_parts_over a)
       (OverOneTick (two_slots b a) (slot_row (two_slots b a) 0) (2 * a + 5))
   -- some epoch has exactly B × floor(L / A) quarantines
   pub quarantines : Reached (one_short b a) (short_filled b a)
@@ -132,7 +132,7 @@ pub record AllReached (Reached : Settings → List Part → (List Event → Type
   -- with Q one less than twice that an access gets 9
   pub nine : Reached (one_short b a) (short_filled b a ++ nine_parts b a)
       (Some (λ e. e.answer.number ≡ 9))
-  pub nine-slots : (one_short b a).q + 1 ≡ 2 * (b * ((one_short b a).l / a))
+  pub nine_slots : (one_short b a).q + 1 ≡ 2 * (b * ((one_short b a).l / a))
 
 -- for every B and every A that set-up accepts
 abbrev pub TightBy : (Settings → List Part → (List Event → Type 0) → Type 0) → Type 0

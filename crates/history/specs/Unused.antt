@@ -23,8 +23,8 @@ pub record Unused : Type 0 where
   -- set-up does not look at them, ..
   pub set_up-number : (S : Settings) (σ : State) (spill acts : List ℕ)
       → (set_up S (with_unused S spill acts σ)).number ≡ (set_up S σ).number
-  pub set_up-state : (S : Settings) (σ : State) (spill acts : List ℕ) → (set_up S σ).number ≡ 0
+  pub set_up_state : (S : Settings) (σ : State) (spill acts : List ℕ) → (set_up S σ).number ≡ 0
       → (set_up S (with_unused S spill acts σ)).state ≡ (set_up S σ).state
   -- .. and makes them 0
-  pub set_up-zero : (S : Settings) (σ : State) → (set_up S σ).number ≡ 0
+  pub set_up_zero : (S : Settings) (σ : State) → (set_up S σ).number ≡ 0
       → UnusedZero S (set_up S σ).state.control

@@ -19,6 +19,6 @@ others_unsound S spill acts counts = some_below (λ c. bank_unsound S spill acts
 -- of the tables
 pub record Tabled (S : Settings) (forward reverse : List ℕ) : Type 0 where
   pub rows_few : S.n ≤ 60000
-  pub slots-few : S.q ≤ 5500
-  pub forward-long : length forward ≡ S.n
-  pub reverse-long : length reverse ≡ S.q
+  pub slots_few : S.q ≤ 5500
+  pub forward_long : length forward ≡ S.n
+  pub reverse_long : length reverse ≡ S.q

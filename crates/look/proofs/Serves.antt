@@ -13,9 +13,9 @@ use Rattle.engine.specs.State.{State}
 use Rattle.engine.specs.Steps.{place}
 use Rattle.engine.specs.Ladder.{inspect_number}
 use Rattle.engine.specs.Calls.{inspect_part}
-use Rattle.engine.proofs.Parts.{part-is}
+use Rattle.engine.proofs.Parts.{part_is}
 use Rattle.figures.specs.Promises.{InspectPartPromise}
-use Rattle.figures.proofs.Spans.{span_none, span-row}
+use Rattle.figures.proofs.Spans.{span_none, span_row}
 
 -- x: the number as the code has it; store: the address of what is lent; bytes, address: of what is returned
 module _ (S : Settings) (σ : State) (r x : ℕ) (same : x ≡ inspect_number S σ r) (store : ℕ × ℕ) (bytes : List ℕ) (address : ℕ × ℕ) where
@@ -27,9 +27,9 @@ module _ (S : Settings) (σ : State) (r x : ℕ) (same : x ≡ inspect_number S 
   part_none n e at =
       (e ∙ none n, rw (← span_none S σ r x same n _ refl) (at ∙ ap (λ (o : ℕ). (store.0, o)) (sym (zero-add store.1))))
 
-  pub part-row : x ≡ 0 → (p : PhysicalRow) → p ≡ physical (place S σ r) → bytes ≡ row_bytes S.w σ.store p.0
+  pub part_row : x ≡ 0 → (p : PhysicalRow) → p ≡ physical (place S σ r) → bytes ≡ row_bytes S.w σ.store p.0
       → address ≡ (store.0, p.0 * S.w + store.1) → InspectPartPromise S σ r store bytes address
-  part-row z p placed e at = (
-    e ∙ ap (λ (q : PhysicalRow). row_bytes S.w σ.store q.0) placed ∙ sym (part-is S σ r x same z),
-    rw (← span-row S σ r x same z p placed _ refl) at,
+  part_row z p placed e at = (
+    e ∙ ap (λ (q : PhysicalRow). row_bytes S.w σ.store q.0) placed ∙ sym (part_is S σ r x same z),
+    rw (← span_row S σ r x same z p placed _ refl) at,
   )

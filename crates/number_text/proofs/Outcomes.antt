@@ -19,12 +19,12 @@ use Rattle.number_text.specs.Numbers.{is_digit, is_gap, appended, ended, numbers
 use Rattle.number_text.specs.Scanner.{pending, outcome, Past}
 
 -- once a value is above the limit, some number of the text is, whatever follows
-stays-large : (v : ℕ) (rest : List ℕ) → 4294967295 < v → every (λ x. leb x 4294967295) (numbers_from (some v) rest) ≡ false
+stays_large : (v : ℕ) (rest : List ℕ) → 4294967295 < v → every (λ x. leb x 4294967295) (numbers_from (some v) rest) ≡ false
 unfolding every numbers_from
-stays-large v [] h = rw (lt-leb v 4294967295 h)
-stays-large v (b ∷ bs) h =
+stays_large v [] h = rw (lt-leb v 4294967295 h)
+stays_large v (b ∷ bs) h =
     elim (split (is_digit b)) [
-      | inl e ↦ rw e (stays-large (appended (some v) b) bs (omega arith))
+      | inl e ↦ rw e (stays_large (appended (some v) b) bs (omega arith))
       | inr e ↦ rw e (rw (lt-leb v 4294967295 h))
     ]
 
@@ -53,9 +53,9 @@ module _ (list : List ℕ) (s : Scan) where
   unfolding outcome
   not_good rest e = rw e
 
-  not-readable : (rest : List ℕ) → readable_from (pending s) rest ≡ false → outcome list s rest ≡ none
+  not_readable : (rest : List ℕ) → readable_from (pending s) rest ≡ false → outcome list s rest ≡ none
   unfolding outcome
-  not-readable rest e = rw (e, and-false s.good)
+  not_readable rest e = rw (e, and-false s.good)
 
   no_room : (rest : List ℕ) → length list < s.count + length (numbers_from (pending s) rest) → outcome list s rest ≡ none
   unfolding outcome
@@ -99,26 +99,26 @@ module _ (list : List ℕ) (s : Scan) where
       pub too_large : is_digit b ≡ true → 4294967295 < appended (pending s) b → outcome list s (b ∷ rest) ≡ none
       unfolding readable_from every numbers_from
       too_large d h =
-          not-readable (b ∷ rest) (rw (d, stays-large (appended (pending s) b) rest h) (and-false (every (λ x. is_digit x || is_gap x) rest)))
+          not_readable (b ∷ rest) (rw (d, stays_large (appended (pending s) b) rest h) (and-false (every (λ x. is_digit x || is_gap x) rest)))
 
-      pub gap-read : is_digit b ≡ false → is_gap b ≡ true → outcome list s (32 ∷ rest) ≡ outcome list s (b ∷ rest)
+      pub gap_read : is_digit b ≡ false → is_gap b ≡ true → outcome list s (32 ∷ rest) ≡ outcome list s (b ∷ rest)
       unfolding outcome readable_from every numbers_from
-      gap-read d g = rw (d, g)
+      gap_read d g = rw (d, g)
 
       pub byte-refused : is_digit b ≡ false → is_gap b ≡ false → outcome list s (b ∷ rest) ≡ none
       unfolding readable_from every
-      byte-refused d g = not-readable (b ∷ rest) (rw (d, g))
+      byte-refused d g = not_readable (b ∷ rest) (rw (d, g))
 
   -- the byte of the text at index i is the next
-  pub next-byte : (text : List ℕ) (i : ℕ) → i < length text → outcome list s (drop i text) ≡ outcome list s (get_or text i 0 ∷ drop (i + 1) text)
-  next-byte text i h = rw (add-one, drop-cons text i 0)
+  pub next_byte : (text : List ℕ) (i : ℕ) → i < length text → outcome list s (drop i text) ≡ outcome list s (get_or text i 0 ∷ drop (i + 1) text)
+  next_byte text i h = rw (add-one, drop-cons text i 0)
 
   -- ---- the end of the text
 
   -- it ends a number as a blank does
-  last-blank : outcome list s (32 ∷ []) ≡ outcome list s []
+  last_blank : outcome list s (32 ∷ []) ≡ outcome list s []
   unfolding outcome readable_from every numbers_from
-  last-blank = rw (append-nil (ended (pending s)))
+  last_blank = rw (append-nil (ended (pending s)))
 
   pub all_listed : s.good ≡ true → s.inside ≡ false → s.count ≤ length list → outcome list s [] ≡ some (take s.count list)
   unfolding outcome readable_from every numbers_from
@@ -126,12 +126,12 @@ module _ (list : List ℕ) (s : Scan) where
 
 module _ (was : List ℕ) (s : Scan) where
   -- a byte after which nothing can come
-  pub past-refused : (b : ℕ) → ((rest : List ℕ) → outcome was s (b ∷ rest) ≡ none) → Past b was s was refused
-  past-refused b h = record { within = zero-le; same = λ rest. not_good was refused rest refl ∙ sym (h rest) }
+  pub past_refused : (b : ℕ) → ((rest : List ℕ) → outcome was s (b ∷ rest) ≡ none) → Past b was s was refused
+  past_refused b h = record { within = zero-le; same = λ rest. not_good was refused rest refl ∙ sym (h rest) }
 
   pub past_too_large : (b : ℕ) → is_digit b ≡ true → 4294967295 < appended (pending s) b → Past b was s was refused
-  past_too_large b d h = past-refused b (λ rest. too_large was s rest b d h)
+  past_too_large b d h = past_refused b (λ rest. too_large was s rest b d h)
 
   -- the text is read, and a blank after it: i is its length or more
-  pub past-text : (text : List ℕ) (i : ℕ) (list : List ℕ) (r : Scan) → length text ≤ i → Past 32 was s list r → outcome was s (drop i text) ≡ outcome list r []
-  past-text text i list r h p = rw (drop_of_length-le text h) (sym (p.same [] ∙ last-blank was s))
+  pub past_text : (text : List ℕ) (i : ℕ) (list : List ℕ) (r : Scan) → length text ≤ i → Past 32 was s list r → outcome was s (drop i text) ≡ outcome list r []
+  past_text text i list r h p = rw (drop_of_length-le text h) (sym (p.same [] ∙ last_blank was s))

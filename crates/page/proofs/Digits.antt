@@ -34,8 +34,8 @@ written digits i rest h =
     append_assoc (cond (eqb (rest / 10) 0) [] (decimal_within i (rest / 10))) ((48 + rest % 10) ∷ []) (drop (suc i) digits)
     ∙ ap (λ (xs : List ℕ). cond (eqb (rest / 10) 0) [] (decimal_within i (rest / 10)) ++ xs) (sym (behind digits i (48 + rest % 10) h))
 
-pub spelling-none : (n : ℕ) (digits : List ℕ) → length digits ≡ 20 → Spelling n digits 20 n
-spelling-none n digits h =
+pub spelling_none : (n : ℕ) (digits : List ℕ) → length digits ≡ 20 → Spelling n digits 20 n
+spelling_none n digits h =
     record {
       within = omega arith;
       long = h;
@@ -43,37 +43,37 @@ spelling-none n digits h =
     }
 
 -- the digit before i is written
-next-digit : {n rest : ℕ} {digits : List ℕ} (i : ℕ) → Spelling n digits (suc i) rest
+next_digit : {n rest : ℕ} {digits : List ℕ} (i : ℕ) → Spelling n digits (suc i) rest
     → decimal n ≡ cond (eqb (rest / 10) 0) [] (decimal_within i (rest / 10)) ++ drop i (set digits i (48 + rest % 10))
-next-digit {n} {rest} {digits} i s = s.whole ∙ written digits i rest (omega (arith, s.within, s.long))
+next_digit {n} {rest} {digits} i s = s.whole ∙ written digits i rest (omega (arith, s.within, s.long))
 
 earlier : {n rest i : ℕ} {digits : List ℕ} → 0 < i → Spelling n digits i rest → Spelling n digits (suc (i - 1)) rest
 earlier {n} {rest} {i} {digits} h s = subst (λ (k : ℕ). Spelling n digits k rest) (omega (arith, h)) s
 
-pub spelling-more : {n rest i : ℕ} {digits : List ℕ} → 0 < i → rest / 10 ≢ 0 → Spelling n digits i rest
+pub spelling_more : {n rest i : ℕ} {digits : List ℕ} → 0 < i → rest / 10 ≢ 0 → Spelling n digits i rest
     → Spelling n (set digits (i - 1) (48 + rest % 10)) (i - 1) (rest / 10)
-spelling-more {n} {rest} {i} {digits} h e s =
+spelling_more {n} {rest} {i} {digits} h e s =
     record {
       within = omega (arith, s.within);
       long = length-set digits (i - 1) (48 + rest % 10) ∙ s.long;
-      whole = next-digit (i - 1) (earlier h s) ∙ rw (ne_eqb (rest / 10) 0 e) refl;
+      whole = next_digit (i - 1) (earlier h s) ∙ rw (ne_eqb (rest / 10) 0 e) refl;
     }
 
-pub spelling-last : {n rest i : ℕ} {digits : List ℕ} → 0 < i → rest / 10 ≡ 0 → Spelling n digits i rest
+pub spelling_last : {n rest i : ℕ} {digits : List ℕ} → 0 < i → rest / 10 ≡ 0 → Spelling n digits i rest
     → drop (i - 1) (set digits (i - 1) (48 + rest % 10)) ≡ decimal n
-spelling-last {n} {rest} {i} {digits} h e s = sym (next-digit (i - 1) (earlier h s) ∙ rw (eq-eqb (rest / 10) 0 e) refl)
+spelling_last {n} {rest} {i} {digits} h e s = sym (next_digit (i - 1) (earlier h s) ∙ rw (eq-eqb (rest / 10) 0 e) refl)
 
 -- no place is left
-pub spelling-full : {n rest : ℕ} {digits : List ℕ} (i : ℕ) → i ≤ 0 → Spelling n digits i rest → drop i digits ≡ decimal n
+pub spelling_full : {n rest : ℕ} {digits : List ℕ} (i : ℕ) → i ≤ 0 → Spelling n digits i rest → drop i digits ≡ decimal n
 unfolding decimal_within
-spelling-full zero h s = sym s.whole
-spelling-full (suc i) h s = absurd (not-suc-le-zero h)
+spelling_full zero h s = sym s.whole
+spelling_full (suc i) h s = absurd (not-suc-le-zero h)
 
-pub decimal-short : (places n : ℕ) → length (decimal_within places n) ≤ places
+pub decimal_short : (places n : ℕ) → length (decimal_within places n) ≤ places
 unfolding decimal_within
-decimal-short zero n = le_refl 0
-decimal-short (suc places) n =
+decimal_short zero n = le_refl 0
+decimal_short (suc places) n =
     let higher = cond (eqb (n / 10) 0) [] (decimal_within places (n / 10)) in
     let h : length higher ≤ places =
-    elim (split (eqb (n / 10) 0)) [ inl e ↦ rw e (omega arith) | inr e ↦ rw e (decimal-short places (n / 10)) ] in
+    elim (split (eqb (n / 10) 0)) [ inl e ↦ rw e (omega arith) | inr e ↦ rw e (decimal_short places (n / 10)) ] in
     omega (arith, h, length-append higher ((48 + n % 10) ∷ []))

@@ -8,9 +8,9 @@ use lib.ListN.{length, take, drop, length-append, length-drop}
 use lib.Seq.{paste, take-paste, take-length, take_all}
 use Rattle.page.specs.Put.{Put}
 
-pub put-paste : (page : List ℕ) (at : ℕ) (bytes : List ℕ) → at + length bytes ≤ length page
+pub put_paste : (page : List ℕ) (at : ℕ) (bytes : List ℕ) → at + length bytes ≤ length page
     → Put page at bytes (paste page at bytes (length bytes)) (at + length bytes)
-put-paste page at bytes h =
+put_paste page at bytes h =
     record {
       counted = refl;
       printed = take-paste page at bytes (length bytes) (omega (arith, h)) (le_refl _) ∙ ap (λ (xs : List ℕ). take at page ++ xs) (take-length bytes);
@@ -31,5 +31,5 @@ pub put_same : {page after : List ℕ} {at next : ℕ} {bytes other : List ℕ} 
 put_same {page} {after} {at} {next} e p = subst (λ (bs : List ℕ). Put page at bs after next) e p
 
 -- a part that reaches to the end
-pub part-rest : (xs : List ℕ) (i count : ℕ) → length xs ≤ i + count → take count (drop i xs) ≡ drop i xs
-part-rest xs i count h = take_all count (drop i xs) (omega (arith, h, length-drop i xs))
+pub part_rest : (xs : List ℕ) (i count : ℕ) → length xs ≤ i + count → take count (drop i xs) ≡ drop i xs
+part_rest xs i count h = take_all count (drop i xs) (omega (arith, h, length-drop i xs))

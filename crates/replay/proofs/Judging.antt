@@ -11,9 +11,9 @@ use lib.ListN.{take, drop}
 use borrow.Author.Tests.{ne_eqb, le-leb, lt-leb}
 use Rattle.geometry.specs.declared.Settings.{Settings}
 use Rattle.conditions.specs.Conditions.{ranges_hold}
-use Rattle.conditions.proofs.Facts.{ranges-facts}
+use Rattle.conditions.proofs.Facts.{ranges_facts}
 use Rattle.engine.specs.Ladder.{settings_number}
-use Rattle.engine.proofs.Facts.{settings-facts}
+use Rattle.engine.proofs.Facts.{settings_facts}
 use Rattle.trace_file.specs.declared.Form.{Form}
 use Rattle.trace_file.specs.declared.Form.TheVariants.{Refused, Trace}
 use Rattle.trace_file.specs.Form.{Recorded, recorded, trace_in, is_empty_trace, most_numbers, trace_within}
@@ -28,18 +28,18 @@ use Rattle.replay.specs.Replay.{page_room, refused_line, played, played_form, re
 -- ---- the settings, and the size of the memory
 
 module _ (S : Settings) where
-  pub ranges-accepted : settings_number S ≡ 0 → ranges_hold S ≡ true
-  ranges-accepted h = (settings-facts S h).0
+  pub ranges_accepted : settings_number S ≡ 0 → ranges_hold S ≡ true
+  ranges_accepted h = (settings_facts S h).0
 
-  pub store-bound : settings_number S ≡ 0 → store_bytes S ≤ (most_rows + most_slots) * widest
-  store-bound h =
-      let R = ranges-facts S (ranges-accepted h) in
-      mul-le-mul (add-le-add R.n-high R.q-high) R.w-high
+  pub store_bound : settings_number S ≡ 0 → store_bytes S ≤ (most_rows + most_slots) * widest
+  store_bound h =
+      let R = ranges_facts S (ranges_accepted h) in
+      mul-le-mul (add-le-add R.n_high R.q_high) R.w_high
 
-  pub entries-bound : settings_number S ≡ 0 → tracker_entries S ≤ 16 * 4096
-  entries-bound h =
-      let R = ranges-facts S (ranges-accepted h) in
-      mul-le-mul R.b-high R.k-high
+  pub entries_bound : settings_number S ≡ 0 → tracker_entries S ≤ 16 * 4096
+  entries_bound h =
+      let R = ranges_facts S (ranges_accepted h) in
+      mul-le-mul R.b_high R.k_high
 
   module _ (steps : List ℕ) where
     pub settings-refused : {number : ℕ} {line : Line} → number ≡ settings_number S → number ≢ 0 → line ≡ bare number
@@ -50,23 +50,23 @@ module _ (S : Settings) where
     pub played_refused : settings_number S ≢ 0 → played S steps ≡ line_bytes 0 (bare (settings_number S))
     played_refused h = sym (settings-refused refl h refl)
 
-    pub memory-refused : settings_number S ≡ 0 → memory_fits S ≡ false → refused_line ≡ played S steps
+    pub memory_refused : settings_number S ≡ 0 → memory_fits S ≡ false → refused_line ≡ played S steps
     unfolding played
-    memory-refused e h = rw (e, h) refl
+    memory_refused e h = rw (e, h) refl
 
-    pub all-run : settings_number S ≡ 0 → memory_fits S ≡ true → run_lines S (lent S) steps ≡ played S steps
+    pub all_run : settings_number S ≡ 0 → memory_fits S ≡ true → run_lines S (lent S) steps ≡ played S steps
     unfolding played
-    all-run e h = rw (e, h) refl
+    all_run e h = rw (e, h) refl
 
 -- ---- the file's form, with the numbers of the file
 
 module _ {form : Form} (numbers : List ℕ) where
-  pub form-refused : form ≡ Refused → refused_line ≡ played_form (recorded form numbers)
-  form-refused e = rw e refl
+  pub form_refused : form ≡ Refused → refused_line ≡ played_form (recorded form numbers)
+  form_refused e = rw e refl
 
-  pub form-played : {S : Settings} {first count : ℕ} → form ≡ Trace S first count
+  pub form_played : {S : Settings} {first count : ℕ} → form ≡ Trace S first count
       → played S (take (first + count - first) (drop first numbers)) ≡ played_form (recorded form numbers)
-  form-played {S} {first} {count} e =
+  form_played {S} {first} {count} e =
       let same : first + count - first ≡ count = omega arith in
       rw (e, same) refl
 
@@ -77,27 +77,27 @@ module _ (text : List ℕ) where
   unfolding replayed
   empty-replayed e = rw e refl
 
-  pub form-replayed : {said : Option Recorded} → is_empty_trace text ≡ false → trace_in text ≡ said
+  pub form_replayed : {said : Option Recorded} → is_empty_trace text ≡ false → trace_in text ≡ said
       → replayed text ≡ played_form said
   unfolding replayed
-  form-replayed e f = rw (e, f) refl
+  form_replayed e f = rw (e, f) refl
 
 -- ---- the page
 
 module _ (text : List ℕ) {room : ℕ} where
-  pub page-short : room < page_room → [] ≡ printed_on room text
+  pub page_short : room < page_room → [] ≡ printed_on room text
   unfolding printed_on
-  page-short h = rw (lt-leb page_room room h) refl
+  page_short h = rw (lt-leb page_room room h) refl
 
   module _ (wide : page_room ≤ room) where
-    pub page-wide : printed_on room text ≡ replayed text
+    pub page_wide : printed_on room text ≡ replayed text
     unfolding printed_on
-    page-wide = rw (le-leb page_room room wide) refl
+    page_wide = rw (le-leb page_room room wide) refl
 
-    pub page-blank : is_empty_trace text ≡ true → [] ≡ printed_on room text
-    page-blank e = sym (page-wide ∙ empty-replayed text e)
+    pub page_blank : is_empty_trace text ≡ true → [] ≡ printed_on room text
+    page_blank e = sym (page_wide ∙ empty-replayed text e)
 
     -- the page has room for all lines, and the list of numbers for every trace
-    pub page-long : {places : ℕ} {said : Option Recorded} → is_empty_trace text ≡ false → most_numbers ≤ places
+    pub page_long : {places : ℕ} {said : Option Recorded} → is_empty_trace text ≡ false → most_numbers ≤ places
         → said ≡ trace_within places text → played_form said ≡ printed_on room text
-    page-long {places} e long f = sym (page-wide ∙ form-replayed text e (sym (f ∙ all_said text places long)))
+    page_long {places} e long f = sym (page_wide ∙ form_replayed text e (sym (f ∙ all_said text places long)))

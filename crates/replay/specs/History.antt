@@ -1,5 +1,5 @@
 -- What a trace prints is what a history answered, so that the theorems of crate `history` speak of it; and what is printed
--- for each kind of file. The proofs are `traces-are-histories` and `every-file` of proofs/History.antt.
+-- for each kind of file. The proofs are `traces_are_histories` and `every_file` of proofs/History.antt.
 -- Assumes nothing.
 use Rattle.std.specs.Prelude.{ℕ, ◌≡◌, ◌≢◌, true, false, List, [], map}
 use Rattle.std.proofs.Math.Option.{none, some}

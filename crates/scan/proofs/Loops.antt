@@ -18,9 +18,9 @@ or_assoc : (a b c : Bool) → a || b || c ≡ a || (b || c)
 or_assoc true b c = refl
 or_assoc false b c = refl
 
-or-false : (a : Bool) → a || false ≡ a
-or-false true = refl
-or-false false = refl
+or_false : (a : Bool) → a || false ≡ a
+or_false true = refl
+or_false false = refl
 
 -- ---- the loop with no branch, over the block of that size from index `at` on: `found` is for its first i entries
 
@@ -38,17 +38,17 @@ module _ (f : ℕ → Bool) where
   unfolding some
   some_more l i h =
       rw (add-one, take-suc l i 0, some-append (take i l) (get_or l i 0 ∷ []))
-      (ap (λ (b : Bool). some f (take i l) || b) (or-false (f (get_or l i 0))))
+      (ap (λ (b : Bool). some f (take i l) || b) (or_false (f (get_or l i 0))))
 
   -- before the first turn
-  pub looked-none : (xs : List ℕ) (at size : ℕ) → Looked f xs at size false 0
+  pub looked_none : (xs : List ℕ) (at size : ℕ) → Looked f xs at size false 0
   unfolding some
-  looked-none xs at size = record { within = zero-le; told = refl }
+  looked_none xs at size = record { within = zero-le; told = refl }
 
 -- one turn takes in the next entry, x
-pub looked-more : {f : ℕ → Bool} {xs : List ℕ} {at size i : ℕ} {found : Bool} → Looked f xs at size found i
+pub looked_more : {f : ℕ → Bool} {xs : List ℕ} {at size i : ℕ} {found : Bool} → Looked f xs at size found i
     → at + size ≤ length xs → i < size → (x : ℕ) → x ≡ get_or xs (at + i) 0 → Looked f xs at size (found || f x) (i + 1)
-looked-more {f} {xs} {at} {size} {i} {found} p inside more x e =
+looked_more {f} {xs} {at} {size} {i} {found} p inside more x e =
     record {
       within = omega arith;
       told = ap (λ (b : Bool). b || f x) p.told
@@ -57,52 +57,52 @@ looked-more {f} {xs} {at} {size} {i} {found} p inside more x e =
     }
 
 -- after the last turn
-pub looked-all : {f : ℕ → Bool} {xs : List ℕ} {at size i : ℕ} {found : Bool} → Looked f xs at size found i
+pub looked_all : {f : ℕ → Bool} {xs : List ℕ} {at size i : ℕ} {found : Bool} → Looked f xs at size found i
     → size ≤ i → found ≡ some f (take size (drop at xs))
-looked-all {f} {xs} {at} {size} {i} p done =
+looked_all {f} {xs} {at} {size} {i} p done =
     let e : i ≡ size = omega arith in
     p.told ∙ ap (λ (n : ℕ). some f (take n (drop at xs))) e
 
 -- the block is the whole list
-pub looked-whole : {f : ℕ → Bool} {xs : List ℕ} {i : ℕ} {found : Bool} → Looked f xs 0 (length xs) found i
+pub looked_whole : {f : ℕ → Bool} {xs : List ℕ} {i : ℕ} {found : Bool} → Looked f xs 0 (length xs) found i
     → length xs ≤ i → found ≡ some f xs
-looked-whole {f} {xs} p done = looked-all p done ∙ ap (some f) (take_all (length xs) xs (omega arith))
+looked_whole {f} {xs} p done = looked_all p done ∙ ap (some f) (take_all (length xs) xs (omega arith))
 
 -- ---- the search
 
 -- nothing is skipped
-pub skipped-none : (f : ℕ → Bool) (xs : List ℕ) (from : ℕ) → from ≤ length xs → Skipped f xs from from
-skipped-none f xs from h = record { within = h; same = refl }
+pub skipped_none : (f : ℕ → Bool) (xs : List ℕ) (from : ℕ) → from ≤ length xs → Skipped f xs from from
+skipped_none f xs from h = record { within = h; same = refl }
 
 -- one part after the other
-pub skipped-on : {f : ℕ → Bool} {xs : List ℕ} {from mid to : ℕ} → Skipped f xs from mid → Skipped f xs mid to
+pub skipped_on : {f : ℕ → Bool} {xs : List ℕ} {from mid to : ℕ} → Skipped f xs from mid → Skipped f xs mid to
     → Skipped f xs from to
-skipped-on p q = record { within = q.within; same = p.same ∙ q.same }
+skipped_on p q = record { within = q.within; same = p.same ∙ q.same }
 
 -- a block in which no entry passes
-lowest-past : (f : ℕ → Bool) (l : List ℕ) (m : ℕ) → m ≤ length l → some f (take m l) ≡ false
+lowest_past : (f : ℕ → Bool) (l : List ℕ) (m : ℕ) → m ≤ length l → some f (take m l) ≡ false
     → lowest f l ≡ m + lowest f (drop m l)
 unfolding lowest some
-lowest-past f l zero h e = omega arith
-lowest-past f [] (suc m) h e = absurd (not-suc-le-zero h)
-lowest-past f (x ∷ xs) (suc m) h e =
-    let ih = lowest-past f xs m (le_of_suc-le-suc h) (or_right (f x) (some f (take m xs)) e) in
+lowest_past f l zero h e = omega arith
+lowest_past f [] (suc m) h e = absurd (not-suc-le-zero h)
+lowest_past f (x ∷ xs) (suc m) h e =
+    let ih = lowest_past f xs m (le_of_suc-le-suc h) (or_right (f x) (some f (take m xs)) e) in
     rw (or_left (f x) (some f (take m xs)) e) (omega arith)
 
-pub skipped-block : {f : ℕ → Bool} {xs : List ℕ} {from at : ℕ} → Skipped f xs from at → (m : ℕ) → at + m ≤ length xs
+pub skipped_block : {f : ℕ → Bool} {xs : List ℕ} {from at : ℕ} → Skipped f xs from at → (m : ℕ) → at + m ≤ length xs
     → some f (take m (drop at xs)) ≡ false → Skipped f xs from (at + m)
-skipped-block {f} {xs} {from} {at} p m inside e =
-    let past = lowest-past f (drop at xs) m (omega (arith, length-drop at xs)) e in
+skipped_block {f} {xs} {from} {at} p m inside e =
+    let past = lowest_past f (drop at xs) m (omega (arith, length-drop at xs)) e in
     record {
       within = inside;
       same = p.same ∙ rw (← drop-drop m at xs) (omega arith);
     }
 
 -- an entry that does not pass
-pub skipped-one : {f : ℕ → Bool} {xs : List ℕ} {from i : ℕ} → Skipped f xs from i → i < length xs
+pub skipped_one : {f : ℕ → Bool} {xs : List ℕ} {from i : ℕ} → Skipped f xs from i → i < length xs
     → f (get_or xs i 0) ≡ false → Skipped f xs from (i + 1)
 unfolding lowest
-skipped-one {f} {xs} {from} {i} p h e =
+skipped_one {f} {xs} {from} {i} p h e =
     record {
       within = omega arith;
       same = p.same ∙ rw (add-one, drop-cons xs i 0 h) (rw e (omega arith));
@@ -139,6 +139,6 @@ some_at f [] i e h = absurd (not-suc-le-zero h)
 some_at f (x ∷ xs) zero e h = or_left (f x) (some f xs) e
 some_at f (x ∷ xs) (suc i) e h = some_at f xs i (or_right (f x) (some f xs) e) (le_of_suc-le-suc h)
 
-pub counts-below : (counts : List ℕ) (m i : ℕ) → some (λ count. ltb m count) counts ≡ false → i < length counts
+pub counts_below : (counts : List ℕ) (m i : ℕ) → some (λ count. ltb m count) counts ≡ false → i < length counts
     → get_or counts i 0 ≤ m
-counts-below counts m i e h = ltb-false m (get_or counts i 0) (some_at (λ count. ltb m count) counts i e h)
+counts_below counts m i e h = ltb-false m (get_or counts i 0) (some_at (λ count. ltb m count) counts i e h)

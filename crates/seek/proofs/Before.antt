@@ -13,21 +13,21 @@ use Rattle.geometry.specs.Numbering.{slot_row}
 use Rattle.geometry.specs.Entry.{empty}
 use Rattle.basics.proofs.Cases.{split, eq?}
 use Rattle.banks.specs.Banks.{bank_of}
-use Rattle.basics.proofs.Portions.{portion-fits, portion-set, portion-set-other}
-use Rattle.banks.proofs.Banks.{bank-in}
+use Rattle.basics.proofs.Portions.{portion_fits, portion-set, portion-set_other}
+use Rattle.banks.proofs.Banks.{bank_in}
 use Rattle.tracking.specs.Worn.{worn}
 use Rattle.tracking.specs.Entry.{entry_of, entry_found}
-use Rattle.tracking.proofs.Due.{due-some}
-use Rattle.tracking.proofs.Banks.{entry_in-bank, estimate-in}
+use Rattle.tracking.proofs.Due.{due_some}
+use Rattle.tracking.proofs.Banks.{entry_in_bank, estimate-in}
 use Rattle.tracking.proofs.Worn.{worn-before}
 use Rattle.engine.specs.State.{State, Tracker, tracker_at, forward_of}
 use Rattle.engine.specs.Steps.{place, tracked, counted, moves, skips, skipped}
-use Rattle.engine.proofs.Skipping.{skip-same}
-use Rattle.engine.proofs.Trackers.{entries-alike, rows_same, counts_same, rows_other, counts-other}
+use Rattle.engine.proofs.Skipping.{skip_same}
+use Rattle.engine.proofs.Trackers.{entries_alike, rows_same, counts_same, rows_other, counts_other}
 use Rattle.seek.specs.Seeking.{worn_before, skips_before, skipped_before}
 
 module _ (S : Settings) (σ : State) (r : ℕ) (some : 1 ≤ S.b) (rows_long : length σ.rows ≡ S.b * S.k)
-    (counts-long : length σ.counts ≡ S.b * S.k) (row_in : r < S.n) (rows_few : S.n ≤ 60000) (slots-few : S.q ≤ 5500)
+    (counts_long : length σ.counts ≡ S.b * S.k) (row_in : r < S.n) (rows_few : S.n ≤ 60000) (slots_few : S.q ≤ 5500)
     (due : moves S σ r ≡ true) where
   -- the place, its bank, the tracker that serves it, and the entry that step 2 changes: among the bank's, and among all
   abbrev p : ℕ
@@ -45,21 +45,21 @@ module _ (S : Settings) (σ : State) (r : ℕ) (some : 1 ≤ S.b) (rows_long : l
   abbrev changed : ℕ
   changed = entry_found S.k c p σ.rows σ.counts t.spill
 
-  changed-is : changed ≡ c * S.k + entry
+  changed_is : changed ≡ c * S.k + entry
   unfolding entry_found
-  changed-is = refl
+  changed_is = refl
 
   fits : (x : ℕ) (table : List ℕ) → length table ≡ S.b * S.k → bank_of S x * S.k + S.k ≤ length table
-  fits x table long = portion-fits S.k S.b (bank_of S x) (length table) long (bank-in S x some)
+  fits x table long = portion_fits S.k S.b (bank_of S x) (length table) long (bank_in S x some)
 
   inside : entry < S.k
   inside =
       let rows_fit = fits p σ.rows rows_long in
-      let counts-fit = fits p σ.counts counts-long in
-      let told = estimate-in S.k c σ.rows σ.counts rows_fit counts-fit p t.spill in
-      let in-bank = entry_in-bank S.k c σ.rows σ.counts rows_fit counts-fit p t.spill
-      (λ e. due-some S.a (tracked S σ r).estimate due (sym told ∙ e)) in
-      omega (arith, changed-is, in-bank)
+      let counts_fit = fits p σ.counts counts_long in
+      let told = estimate-in S.k c σ.rows σ.counts rows_fit counts_fit p t.spill in
+      let in-bank = entry_in_bank S.k c σ.rows σ.counts rows_fit counts_fit p t.spill
+      (λ e. due_some S.a (tracked S σ r).estimate due (sym told ∙ e)) in
+      omega (arith, changed_is, in-bank)
 
   -- whether a physical row is worn after step 2: of the place's bank, and of another
   abbrev worn_after : ℕ → Bool
@@ -70,23 +70,23 @@ module _ (S : Settings) (σ : State) (r : ℕ) (some : 1 ≤ S.b) (rows_long : l
   worn-same : (x : ℕ) → x ≢ p → x ≢ empty → bank_of S x ≡ c → worn_before S changed σ.rows σ.counts x ≡ worn_after x
   worn-same x other named e =
       rw (
-        rows_same S σ r some rows_long counts-long x e,
-        counts_same S σ r some rows_long counts-long x e,
+        rows_same S σ r some rows_long counts_long x e,
+        counts_same S σ r some rows_long counts_long x e,
         e,
-        changed-is,
+        changed_is,
         portion-set S.k c σ.rows (fits p σ.rows rows_long) entry empty inside,
       )
-      (sym (worn-before S.a p t.rows t.counts t.spill (entries-alike S σ r some rows_long counts-long)
+      (sym (worn-before S.a p t.rows t.counts t.spill (entries_alike S σ r some rows_long counts_long)
       x other named due))
 
-  worn-other : (x : ℕ) → bank_of S x ≢ c → worn_before S changed σ.rows σ.counts x ≡ worn_after x
-  worn-other x n =
+  worn_other : (x : ℕ) → bank_of S x ≢ c → worn_before S changed σ.rows σ.counts x ≡ worn_after x
+  worn_other x n =
       let room = fits x σ.rows rows_long in
       rw (
-        rows_other S σ r some rows_long counts-long x n,
-        counts-other S σ r some rows_long counts-long x n,
-        changed-is,
-        portion-set-other S.k c σ.rows (fits p σ.rows rows_long) entry empty inside (bank_of S x) room n,
+        rows_other S σ r some rows_long counts_long x n,
+        counts_other S σ r some rows_long counts_long x n,
+        changed_is,
+        portion-set_other S.k c σ.rows (fits p σ.rows rows_long) entry empty inside (bank_of S x) room n,
       )
 
   -- a slot other than the row's own is not its place
@@ -103,12 +103,12 @@ module _ (S : Settings) (σ : State) (r : ℕ) (some : 1 ≤ S.b) (rows_long : l
         | inl e ↦ rw e
         | inr e ↦ rw e (elim (eq? (bank_of S (slot_row S s)) c) [
           | inl of ↦ worn-same (slot_row S s) (elsewhere s (eqb-false (forward_of σ r) s e)) (λ z. omega arith) of
-          | inr n ↦ worn-other (slot_row S s) n
+          | inr n ↦ worn_other (slot_row S s) n
         ])
       ]
 
   pub skipped-before : σ.control.head < S.q
       → skipped_before S σ.control.head (forward_of σ r) changed σ.rows σ.counts ≡ skipped S σ r
   skipped-before head_in =
-      skip-same (skips_before S (forward_of σ r) changed σ.rows σ.counts) (skips S σ r) S.q S.q σ.control.head
+      skip_same (skips_before S (forward_of σ r) changed σ.rows σ.counts) (skips S σ r) S.q S.q σ.control.head
       head_in skips_there

@@ -10,7 +10,7 @@ use lib.Seq.{set_out, drop-set-lt, drop-set-add, drop-drop}
 use Rattle.geometry.specs.Entry.{empty}
 use Rattle.basics.proofs.Cases.{lt?}
 use Rattle.scan.specs.Scan.{index_of}
-use Rattle.scan.proofs.Scans.{index-set-beside, index-set-next}
+use Rattle.scan.proofs.Scans.{index_set_beside, index_set_next}
 
 -- i: the lowest entry from one on that names a physical row
 module _ (name : ℕ) (rows : List ℕ) (from changed i : ℕ) (named : name ≢ empty)
@@ -20,26 +20,26 @@ module _ (name : ℕ) (rows : List ℕ) (from changed i : ℕ) (named : name ≢
   left_out j e = rw (← e) (drop-set-add from rows j empty)
 
   -- it is not the lowest
-  pub lowest-beside : i ≢ changed → i ≡ from + index_of name (drop from (set rows changed empty))
-  lowest-beside apart =
+  pub lowest_beside : i ≢ changed → i ≡ from + index_of name (drop from (set rows changed empty))
+  lowest_beside apart =
       elim (lt? changed from) [
         | inl h ↦ rw (drop-set-lt from rows changed empty h) found
         | inr h ↦
             let j : ℕ = changed - from in
-            let same = index-set-beside name (drop from rows) j empty (λ e. named (sym e)) (λ e. apart (omega arith)) in
+            let same = index_set_beside name (drop from rows) j empty (λ e. named (sym e)) (λ e. apart (omega arith)) in
             rw (left_out j (add-sub_of_le h), same) found
       ]
 
   -- there is none
-  pub lowest-past : i ≡ changed → length rows ≤ i → i ≡ from + index_of name (drop from (set rows changed empty))
-  lowest-past e h = rw (set_out rows changed empty (omega arith)) found
+  pub lowest_past : i ≡ changed → length rows ≤ i → i ≡ from + index_of name (drop from (set rows changed empty))
+  lowest_past e h = rw (set_out rows changed empty (omega arith)) found
 
   -- it is the lowest: the next counts
-  pub lowest-next : i ≡ changed → i < length rows
+  pub lowest_next : i ≡ changed → i < length rows
       → i + 1 + index_of name (drop (i + 1) rows) ≡ from + index_of name (drop from (set rows changed empty))
-  lowest-next e h =
+  lowest_next e h =
       let j : ℕ = index_of name (drop from rows) in
       let inside : j < length (drop from rows) = omega (arith, length-drop from rows) in
-      let next = index-set-next name (drop from rows) j empty (λ g. named (sym g)) refl inside in
+      let next = index_set_next name (drop from rows) j empty (λ g. named (sym g)) refl inside in
       let on : from + (j + 1) ≡ i + 1 = omega arith in
       rw (left_out j (sym found ∙ e), next, drop-drop (j + 1) from rows, on) (omega arith)

@@ -16,63 +16,63 @@ use Rattle.geometry.specs.Entry.{empty}
 use Rattle.basics.proofs.Cases.{split, eq?, lt?}
 use Rattle.banks.specs.Banks.{bank_of}
 use Rattle.basics.proofs.Portions.{portion-cut}
-use Rattle.banks.proofs.Banks.{bank-in}
+use Rattle.banks.proofs.Banks.{bank_in}
 use Rattle.tracking.specs.Worn.{worn}
-use Rattle.tracking.proofs.Worn.{worn-here, worn-past, worn-none}
+use Rattle.tracking.proofs.Worn.{worn_here, worn_past, worn_none}
 use Rattle.engine.specs.Round.{skipped_of}
-use Rattle.engine.proofs.Skipping.{skip-same}
+use Rattle.engine.proofs.Skipping.{skip_same}
 use Rattle.seek.specs.Seeking.{worn_before, skips_before, Seekable, marked_by, skips_marked, MarkedIn, Marked}
-use Rattle.seek.proofs.OfBank.{rows_fit, counts-fit, others-fit}
+use Rattle.seek.proofs.OfBank.{rows_fit, counts_fit, others_fit}
 
 -- ---- one entry of bank c
 
 module _ (S : Settings) (c name : ℕ) (is : Bool) (marks : List Bool) where
   -- it names a home, a slot of the bank, or a row of another bank
-  pub marked-home : name < S.n → marks ≡ marked_by S c name is marks
-  marked-home h = rw (lt-ltb name S.n h)
+  pub marked_home : name < S.n → marks ≡ marked_by S c name is marks
+  marked_home h = rw (lt-ltb name S.n h)
 
-  pub marked-slot : S.n ≤ name → bank_of S name ≡ c → set marks (name - S.n) is ≡ marked_by S c name is marks
-  marked-slot h e = rw (le-ltb name S.n h, eq-eqb (bank_of S name) c e)
+  pub marked_slot : S.n ≤ name → bank_of S name ≡ c → set marks (name - S.n) is ≡ marked_by S c name is marks
+  marked_slot h e = rw (le-ltb name S.n h, eq-eqb (bank_of S name) c e)
 
-  pub marked-away : bank_of S name ≢ c → marks ≡ marked_by S c name is marks
-  marked-away n = elim (split (ltb name S.n)) [ inl e ↦ rw e | inr e ↦ rw (e, ne_eqb (bank_of S name) c n) ]
+  pub marked_away : bank_of S name ≢ c → marks ≡ marked_by S c name is marks
+  marked_away n = elim (split (ltb name S.n)) [ inl e ↦ rw e | inr e ↦ rw (e, ne_eqb (bank_of S name) c n) ]
 
   -- what holds of the marks whether it writes or not
-  marked-holds : (P : List Bool → Type 0) → P marks → (S.n ≤ name → P (set marks (name - S.n) is))
+  marked_holds : (P : List Bool → Type 0) → P marks → (S.n ≤ name → P (set marks (name - S.n) is))
       → P (marked_by S c name is marks)
-  marked-holds P kept written =
+  marked_holds P kept written =
       elim (lt? name S.n) [
-        | inl h ↦ subst P (marked-home h) kept
+        | inl h ↦ subst P (marked_home h) kept
         | inr h ↦ elim (eq? (bank_of S name) c) [
-          | inl e ↦ subst P (marked-slot h e) (written h)
-          | inr n ↦ subst P (marked-away n) kept
+          | inl e ↦ subst P (marked_slot h e) (written h)
+          | inr n ↦ subst P (marked_away n) kept
         ]
       ]
 
-  pub marked-past : length marks ≤ name - S.n → marks ≡ marked_by S c name is marks
-  marked-past past = marked-holds (λ m. marks ≡ m) refl (λ h. sym (set_out marks (name - S.n) is past))
+  pub marked_past : length marks ≤ name - S.n → marks ≡ marked_by S c name is marks
+  marked_past past = marked_holds (λ m. marks ≡ m) refl (λ h. sym (set_out marks (name - S.n) is past))
 
   length_marked : length (marked_by S c name is marks) ≡ length marks
-  length_marked = marked-holds (λ m. length m ≡ length marks) refl (λ h. length-set marks (name - S.n) is)
+  length_marked = marked_holds (λ m. length m ≡ length marks) refl (λ h. length-set marks (name - S.n) is)
 
   -- the mark of a slot: the one that it names, another, and one of another bank
   module _ (s : ℕ) where
-    marked-same : name ≡ slot_row S s → bank_of S (slot_row S s) ≡ c → s < length marks
+    marked_same : name ≡ slot_row S s → bank_of S (slot_row S s) ≡ c → s < length marks
         → get_or (marked_by S c name is marks) s false ≡ is
-    marked-same e of h =
+    marked_same e of h =
         let at : name - S.n ≡ s = omega arith in
         rw (le-ltb name S.n (omega arith), eq-eqb (bank_of S name) c (ap (bank_of S) e ∙ of), at)
         (get_or-set_same marks s is false h)
 
     marked_other : name ≢ slot_row S s → get_or (marked_by S c name is marks) s false ≡ get_or marks s false
     marked_other n =
-        marked-holds (λ m. get_or m s false ≡ get_or marks s false) refl
+        marked_holds (λ m. get_or m s false ≡ get_or marks s false) refl
         (λ h. get_or-set_other marks (name - S.n) s is false (λ e. n (omega arith)))
 
-    marked-elsewhere : bank_of S (slot_row S s) ≢ c → get_or (marked_by S c name is marks) s false ≡ get_or marks s false
-    marked-elsewhere away =
+    marked_elsewhere : bank_of S (slot_row S s) ≢ c → get_or (marked_by S c name is marks) s false ≡ get_or marks s false
+    marked_elsewhere away =
         elim (eq? name (slot_row S s)) [
-          | inl e ↦ ap (λ (m : List Bool). get_or m s false) (sym (marked-away (λ of. away (ap (bank_of S) (sym e) ∙ of))))
+          | inl e ↦ ap (λ (m : List Bool). get_or m s false) (sym (marked_away (λ of. away (ap (bank_of S) (sym e) ∙ of))))
           | inr n ↦ marked_other n
         ]
 
@@ -93,7 +93,7 @@ pub record Marking (S : Settings) (changed : ℕ) (rows counts : List ℕ) (c : 
   pub others : (s : ℕ) → s < S.q → bank_of S (slot_row S s) ≢ c → get_or after s false ≡ get_or before s false
 
 module _ {S : Settings} {changed : ℕ} {rows counts : List ℕ} (seekable : Seekable S changed rows counts)
-    {c : ℕ} (c-in : c < S.b) where
+    {c : ℕ} (c_in : c < S.b) where
   -- the end of the bank; what the entries before it name, with the changed one left out, and their counts
   abbrev to : ℕ
   to = c * S.k + S.k
@@ -104,21 +104,21 @@ module _ {S : Settings} {changed : ℕ} {rows counts : List ℕ} (seekable : See
   abbrev tallies : List ℕ
   tallies = take to counts
 
-  names-long : length names ≡ to
-  names-long = length-take-le to (set rows changed empty) (others-fit seekable c-in)
+  names_long : length names ≡ to
+  names_long = length-take-le to (set rows changed empty) (others_fit seekable c_in)
 
   -- before the first turn
-  pub marking-none : {before : List Bool}
+  pub marking_none : {before : List Bool}
       → ((s : ℕ) → s < S.q → bank_of S (slot_row S s) ≡ c → get_or before s false ≡ false)
       → Marking S changed rows counts c before before (c * S.k + S.k)
-  marking-none unmarked =
+  marking_none unmarked =
       record {
         low = omega arith;
         high = omega arith;
         long = refl;
         told = λ s b of.
             unmarked s b of
-            ∙ sym (worn-none S.a names (drop to tallies) (slot_row S s) to (omega (arith, names-long)));
+            ∙ sym (worn_none S.a names (drop to tallies) (slot_row S s) to (omega (arith, names_long)));
         others = λ s b n. refl;
       }
 
@@ -126,39 +126,39 @@ module _ {S : Settings} {changed : ℕ} {rows counts : List ℕ} (seekable : See
   module _ {before marks : List Bool} {i : ℕ} (j : ℕ) (next : i ≡ j + 1) (below : c * S.k < i)
       (m : Marking S changed rows counts c before marks i) where
     alike : length names ≡ length tallies
-    alike = names-long ∙ sym (length-take-le to counts (counts-fit seekable c-in))
+    alike = names_long ∙ sym (length-take-le to counts (counts_fit seekable c_in))
 
     inside : j < to
     inside = omega (arith, m.high)
 
     named : j < length names
-    named = omega (arith, inside, names-long)
+    named = omega (arith, inside, names_long)
 
     past : (s : ℕ) → s < S.q → bank_of S (slot_row S s) ≡ c → get_or names j 0 ≢ slot_row S s
         → get_or marks s false ≡ worn_from S changed rows counts c j (slot_row S s)
     past s b of n =
         m.told s b of
         ∙ ap (λ (v : ℕ). worn_from S changed rows counts c v (slot_row S s)) next
-        ∙ sym (worn-past S.a names tallies (slot_row S s) j alike named n)
+        ∙ sym (worn_past S.a names tallies (slot_row S s) j alike named n)
 
     -- the entry that is left out names no slot
-    pub marking-leave : j ≡ changed → Marking S changed rows counts c before marks j
-    marking-leave e =
-        let within : changed < length rows = omega (arith, inside, rows_fit seekable c-in) in
+    pub marking_leave : j ≡ changed → Marking S changed rows counts c before marks j
+    marking_leave e =
+        let within : changed < length rows = omega (arith, inside, rows_fit seekable c_in) in
         let here : get_or names j 0 ≡ empty =
         get_or-take to (set rows changed empty) j 0 inside ∙ rw e (get_or-set_same rows changed empty 0 within) in
         record {
           low = omega arith;
           high = omega (arith, inside);
           long = m.long;
-          told = λ s b of. past s b of (λ g. omega (arith, seekable.slots-few, seekable.rows_few));
+          told = λ s b of. past s b of (λ g. omega (arith, seekable.slots_few, seekable.rows_few));
           others = m.others;
         }
 
     -- any other marks the slot that it names, if that is one of the bank
-    pub marking-more : j ≢ changed → S.q ≤ length before
+    pub marking_more : j ≢ changed → S.q ≤ length before
         → Marking S changed rows counts c before (marked_by S c (get_or rows j 0) (leb S.a (get_or counts j 0)) marks) j
-    marking-more apart room =
+    marking_more apart room =
         let name : ℕ = get_or rows j 0 in
         let is : Bool = leb S.a (get_or counts j 0) in
         let here : get_or names j 0 ≡ name =
@@ -170,21 +170,21 @@ module _ {S : Settings} {changed : ℕ} {rows counts : List ℕ} (seekable : See
           long = length_marked S c name is marks ∙ m.long;
           told = λ s b of. elim (eq? name (slot_row S s)) [
             | inl e ↦
-                marked-same S c name is marks s e of (omega (arith, m.long))
+                marked_same S c name is marks s e of (omega (arith, m.long))
                 ∙ ap (leb S.a) (sym tally)
-                ∙ sym (worn-here S.a names tallies (slot_row S s) j alike named (here ∙ e))
+                ∙ sym (worn_here S.a names tallies (slot_row S s) j alike named (here ∙ e))
             | inr n ↦ marked_other S c name is marks s n ∙ past s b of (λ e. n (sym here ∙ e))
           ];
-          others = λ s b n. marked-elsewhere S c name is marks s n ∙ m.others s b n;
+          others = λ s b n. marked_elsewhere S c name is marks s n ∙ m.others s b n;
         }
 
   -- after the last turn
-  pub marking-all : {before marks : List Bool} {i : ℕ} → Marking S changed rows counts c before marks i → i ≤ c * S.k
+  pub marking_all : {before marks : List Bool} {i : ℕ} → Marking S changed rows counts c before marks i → i ≤ c * S.k
       → MarkedIn S changed rows counts c before marks
-  marking-all {before} {marks} {i} m h =
+  marking_all {before} {marks} {i} m h =
       let first : i ≡ c * S.k = omega (arith, m.low) in
-      let their-names = portion-cut S.k c (set rows changed empty) (others-fit seekable c-in) in
-      let their-counts = portion-cut S.k c counts (counts-fit seekable c-in) in
+      let their-names = portion-cut S.k c (set rows changed empty) (others_fit seekable c_in) in
+      let their-counts = portion-cut S.k c counts (counts_fit seekable c_in) in
       record {
         long = m.long;
         told = λ s b of. m.told s b of ∙ rw (first, of, their-names, their-counts);
@@ -211,13 +211,13 @@ module _ {S : Settings} {changed : ℕ} {rows counts : List ℕ} (seekable : See
         told = λ s b h. absurd (not-suc-le-zero h);
         ahead = λ s b h.
             ap (λ (m : List Bool). get_or m s false) e
-            ∙ get_or-replicate 5500 s false false (omega (arith, seekable.slots-few));
+            ∙ get_or-replicate 5500 s false false (omega (arith, seekable.slots_few));
       }
 
   -- one bank more
   pub below_more : {before marks : List Bool} {c : ℕ} → c < S.b → MarkedBelow S changed rows counts before c
       → MarkedIn S changed rows counts c before marks → MarkedBelow S changed rows counts marks (c + 1)
-  below_more {before} {marks} {c} c-in m bank =
+  below_more {before} {marks} {c} c_in m bank =
       record {
         within = omega arith;
         long = bank.long ∙ m.long;
@@ -233,15 +233,15 @@ module _ {S : Settings} {changed : ℕ} {rows counts : List ℕ} (seekable : See
       → Marked S changed rows counts marks
   below_all m h =
       record {
-        enough = omega (arith, m.long, seekable.slots-few);
-        told = λ s b. m.told s b (omega (arith, bank-in S (slot_row S s) seekable.some-bank));
+        enough = omega (arith, m.long, seekable.slots_few);
+        told = λ s b. m.told s b (omega (arith, bank_in S (slot_row S s) seekable.some_bank));
       }
 
 -- the test by the marks skips the same slots
-pub skipped-marked : {S : Settings} {changed : ℕ} {rows counts : List ℕ} {marks : List Bool}
+pub skipped_marked : {S : Settings} {changed : ℕ} {rows counts : List ℕ} {marks : List Bool}
     → Marked S changed rows counts marks → (entry most from : ℕ) → from < S.q
     → skipped_of (skips_marked entry marks) S.q most from
     ≡ skipped_of (skips_before S entry changed rows counts) S.q most from
-skipped-marked {S} {changed} {rows} {counts} {marks} m entry most from b =
-    skip-same (skips_marked entry marks) (skips_before S entry changed rows counts) S.q most from b
+skipped_marked {S} {changed} {rows} {counts} {marks} m entry most from b =
+    skip_same (skips_marked entry marks) (skips_before S entry changed rows counts) S.q most from b
     (λ s h. ap (λ (w : Bool). eqb entry s || w) (m.told s h))

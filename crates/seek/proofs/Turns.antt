@@ -9,8 +9,8 @@ use lib.Dec.{ltb}
 use borrow.Author.Tests.{lt-ltb, le-ltb}
 use Rattle.basics.proofs.Cases.{lt?}
 use Rattle.engine.specs.Round.{skipped_of}
-use Rattle.engine.proofs.GoneBy.{next-in}
-use Rattle.engine.proofs.Skipping.{skip-on, skip-none, skip-most, cut_short}
+use Rattle.engine.proofs.GoneBy.{next_in}
+use Rattle.engine.proofs.Skipping.{skip_on, skip_none, skip_most, cut_short}
 
 -- of `most` slots from `from` on, n were skipped, and `slot` is next
 pub record Turned (skip : ℕ → Bool) (q most from slot n : ℕ) : Type 0 where
@@ -28,25 +28,25 @@ module _ {skip : ℕ → Bool} {q most from : ℕ} where
     pub turned_more : n < most → skip slot ≡ true → Turned skip q most from ((slot + 1) % q) (n + 1)
     turned_more h e =
         let left : most - n ≡ suc (most - (n + 1)) = omega arith in
-        let on = ap (λ (k : ℕ). skipped_of skip q k slot) left ∙ skip-on skip q (most - (n + 1)) slot e in
+        let on = ap (λ (k : ℕ). skipped_of skip q k slot) left ∙ skip_on skip q (most - (n + 1)) slot e in
         record {
           within = omega arith;
-          inside = next-in q slot t.inside;
+          inside = next_in q slot t.inside;
           same = omega (arith, t.same, on);
         }
 
     -- a slot that is not
-    pub turned-free : skip slot ≡ false → n ≡ skipped_of skip q most from
-    turned-free e = omega (arith, t.same, skip-none skip q (most - n) slot e)
+    pub turned_free : skip slot ≡ false → n ≡ skipped_of skip q most from
+    turned_free e = omega (arith, t.same, skip_none skip q (most - n) slot e)
 
     -- no slot is left
-    pub turned-all : most ≤ n → n ≡ skipped_of skip q most from
-    turned-all h = omega (arith, t.same, skip-most skip q (most - n) slot)
+    pub turned_all : most ≤ n → n ≡ skipped_of skip q most from
+    turned_all h = omega (arith, t.same, skip_most skip q (most - n) slot)
 
 -- the first slots decide, where one of them is not skipped (few: the lesser of all and of the first)
-pub first-tell : (skip : ℕ → Bool) (q most from first : ℕ) {few n : ℕ} → few ≡ cond (ltb most first) most first
+pub first_tell : (skip : ℕ → Bool) (q most from first : ℕ) {few n : ℕ} → few ≡ cond (ltb most first) most first
     → n ≡ skipped_of skip q few from → n < first → n ≡ skipped_of skip q most from
-first-tell skip q most from first {few} {n} e told =
+first_tell skip q most from first {few} {n} e told =
     elim (lt? most first) [
       | inl h ↦ λ b. told ∙ ap (λ (k : ℕ). skipped_of skip q k from) (e ∙ rw (lt-ltb most first h))
       | inr h ↦

@@ -26,11 +26,11 @@ skipped_before S head entry changed rows counts = skipped_of (skips_before S ent
 
 -- what the search asks of the settings and the tracker
 pub record Seekable (S : Settings) (changed : ℕ) (rows counts : List ℕ) : Type 0 where
-  pub slots-few : S.q ≤ 5500
+  pub slots_few : S.q ≤ 5500
   pub rows_few : S.n ≤ 60000
-  pub some-bank : 1 ≤ S.b
+  pub some_bank : 1 ≤ S.b
   pub rows_long : length rows ≡ S.b * S.k
-  pub counts-long : length counts ≡ S.b * S.k
+  pub counts_long : length counts ≡ S.b * S.k
   pub within : changed < length rows
 
 -- what one entry of bank c does to the marks of the slots: it sets the mark of the slot whose physical row it names,

@@ -24,9 +24,9 @@ pub record Served (S : Settings) (σ : State) (c : run.Call) : Type 0 where
   pub same : seen exchange ≡ run.event_of c (run.step S σ c)
 
 -- a write fills no buffer
-fills-none : (S : Settings) (σ : State) (r column : ℕ) (bytes : List ℕ) → [] ≡ (calls.write S σ r column bytes).buffer
+fills_none : (S : Settings) (σ : State) (r column : ℕ) (bytes : List ℕ) → [] ≡ (calls.write S σ r column bytes).buffer
 unfolding calls.write calls.accessed
-fills-none S σ r column bytes =
+fills_none S σ r column bytes =
     let number : ℕ = ladders.access_number S σ (ladders.write_asked S r column (length bytes)) in
     elim (split (eqb number 0)) [ inl e ↦ rw e refl | inr e ↦ rw e refl ]
 
@@ -42,7 +42,7 @@ served S σ (run.rank (run.access (run.read r buffer))) =
     }
 served S σ (run.rank (run.access (run.write r column bytes))) =
     let a : calls.Accessed = calls.write S σ r column bytes in
-    let none : [] ≡ a.buffer = fills-none S σ r column bytes in
+    let none : [] ≡ a.buffer = fills_none S σ r column bytes in
     record {
       exchange = rank (write r column bytes (outcome_of a.answer));
       promised = (refl, refl, none);
@@ -52,11 +52,11 @@ served S σ (run.rank (run.look (run.inspect r))) =
     record { exchange = rank (look (inspect_number r (ladders.inspect_number S σ r))); promised = (refl, refl); same = refl }
 served S σ run.tick = record { exchange = tick (calls.tick S σ).number; promised = refl; same = refl }
 
-pub lists-served : ListsServed
-lists-served S σ [] = ([], (refl, refl))
-lists-served S σ (c ∷ cs) =
+pub lists_served : ListsServed
+lists_served S σ [] = ([], (refl, refl))
+lists_served S σ (c ∷ cs) =
     let x = served S σ c in
-    let rest = lists-served S (run.step S σ c).state cs in (
+    let rest = lists_served S (run.step S σ c).state cs in (
       whole x.exchange ∷ rest.0,
       (
         ((run.step S σ c).state, (x.promised, rest.1.0)),
@@ -71,15 +71,15 @@ calls-of S [] σ = refl
 calls-of S (c ∷ cs) σ = ap (λ (ds : List run.Call). c ∷ ds) (calls-of S cs (run.step S σ c).state)
 
 -- what the definitions reach is reached through the C functions
-witness-served : {S : Settings} {parts : List Part} {P : List run.Event → Type 0} → Witness S parts P → WitnessServed S parts P
-witness-served {S} {parts} {P} w =
+witness_served : {S : Settings} {parts : List Part} {P : List run.Event → Type 0} → Witness S parts P → WitnessServed S parts P
+witness_served {S} {parts} {P} w =
     record {
       accepts =
           (w.accepts.0, ((calls.set_up S w.accepts.0).state, ap (calls.noted_of (calls.set_up S w.accepts.0).state) (sym w.accepts.1)));
       reached = λ blank σ begun.
           let zero : (calls.set_up S blank).number ≡ 0 = sym (ap (λ (n : calls.Noted). n.number) begun) in
           let new : (calls.set_up S blank).state ≡ σ = sym (ap (λ (n : calls.Noted). n.state) begun) in
-          let made = lists-served S σ (calls_of parts) in
+          let made = lists_served S σ (calls_of parts) in
           record {
             log = made.0;
             end = run.run S σ (calls_of parts);
@@ -89,15 +89,15 @@ witness-served {S} {parts} {P} w =
           };
     }
 
-pub tight-served : TightServed
-tight-served b a some few pos most =
+pub tight_served : TightServed
+tight_served b a some few pos most =
     let t : AllReached Witness b a = tight b a some few pos most in
     record {
-      home = witness-served t.home;
-      slot = witness-served t.slot;
-      home-over-tick = witness-served t.home-over-tick;
-      slot-over-tick = witness-served t.slot-over-tick;
-      quarantines = witness-served t.quarantines;
-      nine = witness-served t.nine;
-      nine-slots = t.nine-slots;
+      home = witness_served t.home;
+      slot = witness_served t.slot;
+      home_over_tick = witness_served t.home_over_tick;
+      slot_over_tick = witness_served t.slot_over_tick;
+      quarantines = witness_served t.quarantines;
+      nine = witness_served t.nine;
+      nine_slots = t.nine_slots;
     }

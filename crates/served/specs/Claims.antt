@@ -1,6 +1,6 @@
 -- Demands 2 and 3 of the C functions, the figures of a stretch over one tick, what their estimates tell, how far an epoch is when
--- one answers 9, and that a call which got 9 is accepted after a tick. The proofs are `demand-2-served`, `demand-3-served`,
--- `window-served` and so on, of proofs/Served.antt.
+-- one answers 9, and that a call which got 9 is accepted after a tick. The proofs are `demand_2_served`, `demand_3_served`,
+-- `window_served` and so on, of proofs/Served.antt.
 -- Assumes nothing.
 use Rattle.std.specs.Prelude.{ℕ, ◌<◌, ◌≡◌, List, ◌++◌, map}
 use Rattle.geometry.specs.declared.Settings.{Settings}

@@ -1,5 +1,5 @@
 -- Demand 1 of the C functions: what holds of each call, by its promise alone, for all settings, arguments and lent memory, sound or
--- not. The proof is `demand-1-served` of proofs/Demand1.antt.
+-- not. The proof is `demand_1_served` of proofs/Demand1.antt.
 -- Assumes nothing.
 use Rattle.std.specs.Prelude.{ℕ, ◌+◌, ◌≤◌, ◌≡◌, ◌≢◌, [], ◌∷◌, length}
 use Rattle.basics.specs.Lists.{OneOf}

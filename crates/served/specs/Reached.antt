@@ -1,5 +1,5 @@
 -- What can be had through the C functions: every list of calls, with the answers that the definitions give, and so every figure.
--- The proofs are `lists-served` and `tight-served` of proofs/Reached.antt.
+-- The proofs are `lists_served` and `tight_served` of proofs/Reached.antt.
 -- Assumes nothing.
 use Rattle.std.specs.Prelude.{◌≡◌, List, map}
 use Rattle.geometry.specs.declared.Settings.{Settings}

@@ -1,5 +1,5 @@
 -- Document 02, Ask 5, of the C functions, on any memory: 'the record's places for banks from B on are 0 at set-up and not looked at
--- or changed afterwards.' The proof is `unused-served` of proofs/Unused.antt.
+-- or changed afterwards.' The proof is `unused_served` of proofs/Unused.antt.
 -- Assumes nothing.
 use Rattle.std.specs.Prelude.{ℕ, List}
 use Rattle.geometry.specs.declared.Settings.{Settings}
@@ -18,5 +18,5 @@ pub record UnusedServed : Type 0 where
   -- an accepted set-up leaves the same memory, whatever stood there, and makes them 0
   pub set-up : (S : Settings) (before after : State) (spill acts : List ℕ) → SetUpPromise S before after 0
       → SetUpPromise S (with_unused S spill acts before) after 0
-  pub set_up-zero : (S : Settings) (before after : State) → SetUpPromise S before after 0
+  pub set_up_zero : (S : Settings) (before after : State) → SetUpPromise S before after 0
       → UnusedZero S after.control

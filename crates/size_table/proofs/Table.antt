@@ -15,22 +15,22 @@ use Rattle.sizing.specs.Sums.{least_size, size_ranges_hold}
 use Rattle.size_table.specs.Table.{pair, sizes, table_times, gives, agrees, TableAgrees}
 
 -- the test passes at each entry
-every-at : {A : Type 0} (f : A → Bool) (xs : List A) → every f xs ≡ true → (i : ℕ) (d : A) → i < length xs → f (get_or xs i d) ≡ true
+every_at : {A : Type 0} (f : A → Bool) (xs : List A) → every f xs ≡ true → (i : ℕ) (d : A) → i < length xs → f (get_or xs i d) ≡ true
 unfolding every
-every-at f [] t i d h = absurd (not-suc-le-zero h)
-every-at f (x ∷ xs) t zero d h = and_left (f x) (every f xs) t
-every-at f (x ∷ xs) t (suc i) d h = every-at f xs (and_right (f x) (every f xs) t) i d (le_of_suc-le-suc h)
+every_at f [] t i d h = absurd (not-suc-le-zero h)
+every_at f (x ∷ xs) t zero d h = and_left (f x) (every f xs) t
+every_at f (x ∷ xs) t (suc i) d h = every_at f xs (and_right (f x) (every f xs) t) i d (le_of_suc-le-suc h)
 
 given : (f : Figure) (v : ℕ) → gives f v ≡ true → f ≡ Value v
 given Refused v e = absurd (mathlib.Core.Bool.false≢true e)
 given (Value x) v e = ap Value (eqb-true x v e)
 
 -- the one computed test
-all-agree : every agrees sizes ≡ true
+all_agree : every agrees sizes ≡ true
 unfolding every least_size size_ranges_hold
-all-agree = refl
+all_agree = refl
 
 pub table-agrees : TableAgrees
 table-agrees i h =
     let p = get_or sizes i (pair 0 0) in
-    given (least_size (table_times p.threshold)) p.size (every-at agrees sizes all-agree i (pair 0 0) h)
+    given (least_size (table_times p.threshold)) p.size (every_at agrees sizes all_agree i (pair 0 0) h)

@@ -13,13 +13,13 @@ use Rattle.sizing.specs.Sums.{size_ranges_hold, activation_ranges_hold}
 
 pub record SizeBounds (t : SizeTimes) : Type 0 where
   pub window : t.trefw * t.banks ≤ 1024000000000
-  pub opening-low : 1 ≤ t.threshold * t.trc
-  pub opening-high : t.threshold * t.trc ≤ 655350000
+  pub opening_low : 1 ≤ t.threshold * t.trc
+  pub opening_high : t.threshold * t.trc ≤ 655350000
   pub moving : t.banks * t.tmov ≤ 1024000000
 
-pub size-bounds : {t : SizeTimes} → size_ranges_hold t ≡ true → SizeBounds t
+pub size_bounds : {t : SizeTimes} → size_ranges_hold t ≡ true → SizeBounds t
 unfolding size_ranges_hold
-size-bounds {t} h =
+size_bounds {t} h =
     let trc : in_range 1 10000 t.trc ≡ true = search (and_left, and_right) depth 8 in
     let threshold : in_range 1 65535 t.threshold ≡ true = search (and_left, and_right) depth 8 in
     let trefw-high = high 1 1000000000 t.trefw (search (and_left, and_right) depth 8) in
@@ -27,20 +27,20 @@ size-bounds {t} h =
     let banks-high = high 1 1024 t.banks (search (and_left, and_right) depth 8) in
     record {
       window = mul-le-mul trefw-high banks-high;
-      opening-low = mul-le-mul (low 1 65535 t.threshold threshold) (low 1 10000 t.trc trc);
-      opening-high = mul-le-mul (high 1 65535 t.threshold threshold) (high 1 10000 t.trc trc);
+      opening_low = mul-le-mul (low 1 65535 t.threshold threshold) (low 1 10000 t.trc trc);
+      opening_high = mul-le-mul (high 1 65535 t.threshold threshold) (high 1 10000 t.trc trc);
       moving = mul-le-mul banks-high tmov-high;
     }
 
 pub record RefreshBounds (t : RefreshTimes) : Type 0 where
   pub refresh : t.trfc < t.trefi
   pub window : t.trefw * (t.trefi - t.trfc) ≤ 1000000000000000
-  pub cycles-low : 1 ≤ t.trefi * t.trc
-  pub cycles-high : t.trefi * t.trc ≤ 10000000000
+  pub cycles_low : 1 ≤ t.trefi * t.trc
+  pub cycles_high : t.trefi * t.trc ≤ 10000000000
 
-pub refresh-bounds : {t : RefreshTimes} → activation_ranges_hold t ≡ true → RefreshBounds t
+pub refresh_bounds : {t : RefreshTimes} → activation_ranges_hold t ≡ true → RefreshBounds t
 unfolding activation_ranges_hold
-refresh-bounds {t} h =
+refresh_bounds {t} h =
     let trc : in_range 1 10000 t.trc ≡ true = search (and_left, and_right) depth 8 in
     let trefw-high = high 1 1000000000 t.trefw (search (and_left, and_right) depth 8) in
     let trefi-high = high 1 1000000 t.trefi (search (and_left, and_right) depth 8) in
@@ -50,6 +50,6 @@ refresh-bounds {t} h =
     record {
       refresh = trfc-below;
       window = mul-le-mul trefw-high rest-high;
-      cycles-low = mul-le-mul trefi-low (low 1 10000 t.trc trc);
-      cycles-high = mul-le-mul trefi-high (high 1 10000 t.trc trc);
+      cycles_low = mul-le-mul trefi-low (low 1 10000 t.trc trc);
+      cycles_high = mul-le-mul trefi-high (high 1 10000 t.trc trc);
     }

@@ -10,29 +10,29 @@ use lib.ListN.{length}
 use Rattle.basics.proofs.Cases.{split}
 use Rattle.basics.proofs.Tests.{and_right}
 use Rattle.number_text.specs.Numbers.{blank, numbers, readable}
-use Rattle.number_text.proofs.Blank.{blank-no-numbers}
+use Rattle.number_text.proofs.Blank.{blank_no_numbers}
 use Rattle.trace_file.specs.declared.Form.TheVariants.{Refused}
 use Rattle.trace_file.specs.Form.{steps_at, file_fits, form_in, trace_in, is_empty_trace}
-use Rattle.trace_file.proofs.Sections.{one-section, fewer-than-eight, said_same}
+use Rattle.trace_file.proofs.Sections.{one_section, fewer_than_eight, said_same}
 
 module _ (text : List ℕ) where
-  pub empty-no-numbers : is_empty_trace text ≡ true → length (numbers text) ≡ 0
+  pub empty_no_numbers : is_empty_trace text ≡ true → length (numbers text) ≡ 0
   unfolding is_empty_trace
-  empty-no-numbers e = ap length (blank-no-numbers text (and_right (file_fits text) (blank text) e))
+  empty_no_numbers e = ap length (blank_no_numbers text (and_right (file_fits text) (blank text) e))
 
   -- a file with a number is no empty trace
   pub has-number : 1 ≤ length (numbers text) → is_empty_trace text ≡ false
-  has-number h = elim (split (is_empty_trace text)) [ inl e ↦ absurd (omega (arith, empty-no-numbers e)) | inr e ↦ e ]
+  has-number h = elim (split (is_empty_trace text)) [ inl e ↦ absurd (omega (arith, empty_no_numbers e)) | inr e ↦ e ]
 
   -- no second section
-  few-refused : (length (numbers text) < 8) ⊎ (length (numbers text) < steps_at (numbers text)) → form_in text ≡ Refused
+  few_refused : (length (numbers text) < 8) ⊎ (length (numbers text) < steps_at (numbers text)) → form_in text ≡ Refused
   unfolding form_in
-  few-refused h =
+  few_refused h =
       elim (split (file_fits text && readable text)) [
-        | inl e ↦ rw e (elim h [ inl k ↦ fewer-than-eight (numbers text) k | inr k ↦ one-section (numbers text) k ])
+        | inl e ↦ rw e (elim h [ inl k ↦ fewer_than_eight (numbers text) k | inr k ↦ one_section (numbers text) k ])
         | inr e ↦ rw e refl
       ]
 
-  pub few-numbers : (length (numbers text) < 8) ⊎ (length (numbers text) < steps_at (numbers text)) → trace_in text ≡ none
+  pub few_numbers : (length (numbers text) < 8) ⊎ (length (numbers text) < steps_at (numbers text)) → trace_in text ≡ none
   unfolding trace_in
-  few-numbers h = said_same (numbers text) (few-refused h)
+  few_numbers h = said_same (numbers text) (few_refused h)

@@ -22,8 +22,8 @@ both : (n q w k a l : ℕ) (rest : List ℕ)
 unfolding has_sections
 both n q w k a l rest = rw (one_more (length (n ∷ q ∷ w ∷ k ∷ a ∷ l ∷ 1 ∷ rest)) (get_or rest 0 0)) refl
 
-pub seven-with-one-bank : SevenWithOneBank
+pub seven_with_one_bank : SevenWithOneBank
 unfolding banks_in
-seven-with-one-bank n q w k a l rest =
+seven_with_one_bank n q w k a l rest =
     let same = both n q w k a l rest in
     elim (split (has_sections (6 ∷ n ∷ q ∷ w ∷ k ∷ a ∷ l ∷ rest))) [ inl e ↦ rw (same, e) refl | inr e ↦ rw (same, e) refl ]

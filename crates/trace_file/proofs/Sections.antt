@@ -21,14 +21,14 @@ use Rattle.trace_file.specs.Form.{Recorded, form_of, recorded, sections, file_fi
 use Rattle.trace_file.specs.Form.{most_numbers, form_within, trace_within, StepsWithin}
 
 -- a first count that is taken
-first-known : (x : ℕ) → is_first_count x ≡ true → (x ≡ 6) ⊎ (x ≡ 7)
-first-known x e = elim (split (eqb x 6)) [ inl f ↦ inl (eqb-true x 6 f) | inr f ↦ inr (eqb-true x 7 (rw f at e)) ]
+first_known : (x : ℕ) → is_first_count x ≡ true → (x ≡ 6) ⊎ (x ≡ 7)
+first_known x e = elim (split (eqb x 6)) [ inl f ↦ inl (eqb-true x 6 f) | inr f ↦ inr (eqb-true x 7 (rw f at e)) ]
 
 pub first-least : (x : ℕ) → is_first_count x ≡ true → 6 ≤ x
-first-least x e = elim (first-known x e) [ inl f ↦ omega arith | inr f ↦ omega arith ]
+first-least x e = elim (first_known x e) [ inl f ↦ omega arith | inr f ↦ omega arith ]
 
-pub first-most : (x : ℕ) → is_first_count x ≡ true → x ≤ 7
-first-most x e = elim (first-known x e) [ inl f ↦ omega arith | inr f ↦ omega arith ]
+pub first_most : (x : ℕ) → is_first_count x ≡ true → x ≤ 7
+first_most x e = elim (first_known x e) [ inl f ↦ omega arith | inr f ↦ omega arith ]
 
 -- ---- a list of numbers
 
@@ -52,22 +52,22 @@ module _ (xs : List ℕ) where
       }
 
   -- else it is refused
-  not-sectioned : (Sectioned xs → ⊥) → form_of xs ≡ Refused
-  not-sectioned n = elim (split (has_sections xs)) [ inl e ↦ absurd (n (sectioned e)) | inr e ↦ rw e refl ]
+  not_sectioned : (Sectioned xs → ⊥) → form_of xs ≡ Refused
+  not_sectioned n = elim (split (has_sections xs)) [ inl e ↦ absurd (n (sectioned e)) | inr e ↦ rw e refl ]
 
-  other-first : is_first_count (first_count xs) ≡ false → form_of xs ≡ Refused
-  other-first e = not-sectioned (λ s. false≢true (sym e ∙ s.taken))
+  other_first : is_first_count (first_count xs) ≡ false → form_of xs ≡ Refused
+  other_first e = not_sectioned (λ s. false≢true (sym e ∙ s.taken))
 
   -- no second section: fewer numbers than the first count requires, or than any first count requires
-  pub one-section : length xs < steps_at xs → form_of xs ≡ Refused
-  one-section h = not-sectioned (λ s. omega (arith, s.whole))
+  pub one_section : length xs < steps_at xs → form_of xs ≡ Refused
+  one_section h = not_sectioned (λ s. omega (arith, s.whole))
 
-  pub fewer-than-eight : length xs < 8 → form_of xs ≡ Refused
-  fewer-than-eight h = not-sectioned (λ s. omega (arith, s.whole, first-least (first_count xs) s.taken))
+  pub fewer_than_eight : length xs < 8 → form_of xs ≡ Refused
+  fewer_than_eight h = not_sectioned (λ s. omega (arith, s.whole, first-least (first_count xs) s.taken))
 
   -- more numbers than the longest trace has
   too_many : most_numbers < length xs → form_of xs ≡ Refused
-  too_many h = not-sectioned (λ s. omega (arith, s.whole, s.few, first-most (first_count xs) s.taken))
+  too_many h = not_sectioned (λ s. omega (arith, s.whole, s.few, first_most (first_count xs) s.taken))
 
 -- ---- its first `count` numbers
 
@@ -77,9 +77,9 @@ counted list count = leb (second_count list) 4096 && eqb count (steps_at list + 
 
 module _ (list : List ℕ) (count : ℕ) (room : count ≤ length list) where
   -- the steps end where the numbers end, and are the same in the whole list
-  steps-same : (first steps : ℕ) → count ≡ first + steps
+  steps_same : (first steps : ℕ) → count ≡ first + steps
       → take steps (drop first list) ≡ take steps (drop first (take count list))
-  steps-same first steps e =
+  steps_same first steps e =
       let part = take steps (drop first list) in
       let cut : drop first (take count list) ≡ part =
       ap (λ (n : ℕ). drop first (take n list)) e
@@ -87,43 +87,43 @@ module _ (list : List ℕ) (count : ℕ) (room : count ≤ length list) where
       ∙ drop_at (take first list) part first (length-take-le first list (omega arith)) in
       sym (ap (take steps) cut ∙ take-take steps steps (drop first list) (le_refl steps))
 
-  pub said-in-list : recorded (form_of (take count list)) list ≡ sections (take count list)
-  said-in-list =
+  pub said_in_list : recorded (form_of (take count list)) list ≡ sections (take count list)
+  said_in_list =
       let xs = take count list in
       let trace : List ℕ → Option Recorded = λ steps. some (record { settings = settings_of xs; steps = steps }) in
       elim (split (has_sections xs)) [
         | inl e ↦
             let whole = sym (length-take-le count list room) ∙ (sectioned xs e).whole in
-            rw e (ap trace (steps-same (steps_at xs) (second_count xs) whole))
+            rw e (ap trace (steps_same (steps_at xs) (second_count xs) whole))
         | inr e ↦ rw e refl
       ]
 
-  pub no-numbers : count ≡ 0 → form_of (take count list) ≡ Refused
-  no-numbers e = one-section (take count list) (omega (arith, length-take-le count list room))
+  pub no_numbers : count ≡ 0 → form_of (take count list) ≡ Refused
+  no_numbers e = one_section (take count list) (omega (arith, length-take-le count list room))
 
   module _ (Some-number : count ≢ 0) where
     first-same : first_count (take count list) ≡ first_count list
     first-same = get_or-take count list 0 0 (omega arith)
 
     pub first-refused : is_first_count (first_count list) ≡ false → form_of (take count list) ≡ Refused
-    first-refused e = other-first (take count list) (ap is_first_count first-same ∙ e)
+    first-refused e = other_first (take count list) (ap is_first_count first-same ∙ e)
 
     pub too_few : count < steps_at list → form_of (take count list) ≡ Refused
-    too_few h = one-section (take count list) (omega (arith, first-same, length-take-le count list room))
+    too_few h = one_section (take count list) (omega (arith, first-same, length-take-le count list room))
 
     module _ (first : is_first_count (first_count list) ≡ true) (enough : steps_at list ≤ count) where
       at : (i : ℕ) → i < 8 → get_or (take count list) i 0 ≡ get_or list i 0
       at i h = get_or-take count list i 0 (omega (arith, first-least (first_count list) first))
 
-      second-same : get_or (take count list) (first_count list + 1) 0 ≡ second_count list
-      second-same = get_or-take count list (first_count list + 1) 0 (omega arith)
+      second_same : get_or (take count list) (first_count list + 1) 0 ≡ second_count list
+      second_same = get_or-take count list (first_count list + 1) 0 (omega arith)
 
       tested : has_sections (take count list) ≡ counted list count
       unfolding has_sections
-      tested = rw (first-same, first, second-same, length-take-le count list room)
+      tested = rw (first-same, first, second_same, length-take-le count list room)
 
-      pub not-formed : counted list count ≡ false → form_of (take count list) ≡ Refused
-      not-formed e = rw (tested, e)
+      pub not_formed : counted list count ≡ false → form_of (take count list) ≡ Refused
+      not_formed e = rw (tested, e)
 
       settings-same : settings_of (take count list) ≡ settings_of list
       unfolding banks_in
@@ -139,24 +139,24 @@ module _ (list : List ℕ) (count : ℕ) (room : count ≤ length list) where
             at 7 (omega arith),
           )
 
-      pub well-formed : counted list count ≡ true
+      pub well_formed : counted list count ≡ true
           → form_of (take count list) ≡ Trace (settings_of list) (steps_at list) (second_count list)
-      well-formed e = rw (tested, e) (rw (settings-same, first-same, second-same))
+      well_formed e = rw (tested, e) (rw (settings-same, first-same, second_same))
 
 -- ---- where the steps stand
 
-within-if : (test : Bool) (form : Form) → (test ≡ true → StepsWithin form) → StepsWithin (cond test form Refused)
-within-if true form h = h refl
-within-if false form h = (omega arith, omega arith)
+within_if : (test : Bool) (form : Form) → (test ≡ true → StepsWithin form) → StepsWithin (cond test form Refused)
+within_if true form h = h refl
+within_if false form h = (omega arith, omega arith)
 
 pub form-within : (room : ℕ) (text : List ℕ) → StepsWithin (form_within room text)
 unfolding form_within form_in
 form-within room text =
     let xs = numbers text in
-    within-if (leb most_numbers room) (form_in text)
-    (λ wide. within-if (file_fits text && readable text) (form_of xs)
-    (λ read. within-if (has_sections xs) (Trace (settings_of xs) (steps_at xs) (second_count xs))
-    (λ e. let s = sectioned xs e in (omega (arith, first-most (first_count xs) s.taken), s.few))))
+    within_if (leb most_numbers room) (form_in text)
+    (λ wide. within_if (file_fits text && readable text) (form_of xs)
+    (λ read. within_if (has_sections xs) (Trace (settings_of xs) (steps_at xs) (second_count xs))
+    (λ e. let s = sectioned xs e in (omega (arith, first_most (first_count xs) s.taken), s.few))))
 
 -- ---- a text, read into a list of `room` places
 
@@ -177,17 +177,17 @@ module _ (text : List ℕ) (room : ℕ) where
   no_room h = refuses (rw (lt-leb most_numbers room h))
 
   module _ (wide : most_numbers ≤ room) where
-    enough-room : form_within room text ≡ form_in text
+    enough_room : form_within room text ≡ form_in text
     unfolding form_within
-    enough-room = rw (le-leb most_numbers room wide)
+    enough_room = rw (le-leb most_numbers room wide)
 
     pub all_said : trace_within room text ≡ trace_in text
     unfolding trace_in
-    all_said = said_same (numbers text) enough-room
+    all_said = said_same (numbers text) enough_room
 
     pub too_long : 65536 < length text → Refuses room text
     unfolding form_in
-    too_long h = refuses (rw (enough-room, lt-leb (length text) 65536 h))
+    too_long h = refuses (rw (enough_room, lt-leb (length text) 65536 h))
 
     module _ (short : length text ≤ 65536) where
       -- no trace is lost for want of room
@@ -195,7 +195,7 @@ module _ (text : List ℕ) (room : ℕ) where
       unfolding form_in numbers_within
       none_read e =
           refuses
-          (rw (enough-room, le-leb (length text) 65536 short)
+          (rw (enough_room, le-leb (length text) 65536 short)
           (elim (split (readable text)) [
             | inl r ↦ rw r (elim (split (leb (length (numbers text)) room)) [
               | inl f ↦ absurd (some-ne-none (numbers text) (sym (rw (r, f) at e)))
@@ -213,7 +213,7 @@ module _ (text : List ℕ) (room : ℕ) where
             | inl f ↦
                 let read = and_left (readable text) (leb (length (numbers text)) room) f in (
                   some-injective xs (numbers text) (rw f at e),
-                  rw (enough-room, le-leb (length text) 65536 short, read) refl,
+                  rw (enough_room, le-leb (length text) 65536 short, read) refl,
                 )
             | inr f ↦ absurd (some-ne-none xs (rw f at e))
           ]
@@ -226,7 +226,7 @@ module _ (text : List ℕ) (room : ℕ) where
           let read = all_read (take count list) e in (
             f ∙ ap form_of read.0 ∙ read.1,
             said_same list f
-                ∙ said-in-list list count fits
+                ∙ said_in_list list count fits
                 ∙ ap sections read.0
                 ∙ said_same (numbers text) read.1,
           )

@@ -31,8 +31,8 @@ pub record Running (S : Settings) (start : State) (steps : List ℕ) (σ : State
   pub whole : lines_from 1 (steps_from S start steps) ≡ take at page ++ lines_from (suc i) (steps_from S σ (drop i steps))
 
 -- a step less is left
-pub still-less : {n i : ℕ} → i < n → n - (i + 1) < n - i
-still-less h = omega arith
+pub still_less : {n i : ℕ} → i < n → n - (i + 1) < n - i
+still_less h = omega arith
 
 module _ (S : Settings) where
   lines_cons : (σ : State) (x i : ℕ) (xs : List ℕ) → lines_from i (steps_from S σ (x ∷ xs))
@@ -40,24 +40,24 @@ module _ (S : Settings) where
   unfolding lines_from steps_from stepped
   lines_cons σ x i xs = refl
 
-  lines-nil : (σ : State) (i : ℕ) → lines_from i (steps_from S σ []) ≡ []
+  lines_nil : (σ : State) (i : ℕ) → lines_from i (steps_from S σ []) ≡ []
   unfolding lines_from steps_from
-  lines-nil σ i = refl
+  lines_nil σ i = refl
 
   -- the lines from step i on: its own, and the rest
-  next-line : (σ after : State) (steps : List ℕ) (i : ℕ) (line : Line) → i < length steps
+  next_line : (σ after : State) (steps : List ℕ) (i : ℕ) (line : Line) → i < length steps
       → stepped_of after line ≡ stepped S σ (get_or steps i 0)
       → lines_from (suc i) (steps_from S σ (drop i steps))
       ≡ line_bytes (suc i) line ++ lines_from (suc (suc i)) (steps_from S after (drop (suc i) steps))
-  next-line σ after steps i line h e = rw (drop-cons steps i 0, lines_cons, ← e) refl
+  next_line σ after steps i line h e = rw (drop-cons steps i 0, lines_cons, ← e) refl
 
   pub running_none : {start : State} {steps page : List ℕ} → Running S start steps start page 0 0
   running_none = record { within = omega arith; room = omega arith; whole = refl }
 
   -- there is room for one line more
-  pub room-left : {start σ : State} {steps page : List ℕ} {at i room : ℕ} → Running S start steps σ page at i
+  pub room_left : {start σ : State} {steps page : List ℕ} {at i room : ℕ} → Running S start steps σ page at i
       → i < length steps → line_room * length steps ≤ room → length page ≡ room → at + line_room ≤ length page
-  room-left r h long same = omega (arith, r.room)
+  room_left r h long same = omega (arith, r.room)
 
   -- what was printed is within the page
   pub all_short : {start σ : State} {steps page : List ℕ} {at i room : ℕ} → Running S start steps σ page at i
@@ -79,15 +79,15 @@ module _ (S : Settings) where
         whole =
             before.whole
             ∙ rw (put.printed, append_assoc, add-one)
-            (ap (λ (ys : List ℕ). take at page ++ ys) (next-line σ after steps i r.line h e));
+            (ap (λ (ys : List ℕ). take at page ++ ys) (next_line σ after steps i r.line h e));
       }
 
   -- the lists and n: what set-up left of the memory lent, σ₀, and answered
-  pub running-all : {σ : State} {store forward reverse rows counts steps page : List ℕ} {at i : ℕ} {n : Numbered}
+  pub running_all : {σ : State} {store forward reverse rows counts steps page : List ℕ} {at i : ℕ} {n : Numbered}
       (σ₀ : State) → length steps ≤ i
       → Running S (state_of store forward reverse rows counts n.control) steps σ page at i
       → noted_of (state_of store forward reverse rows counts n.control) n.number ≡ set_up S σ₀
       → take at page ≡ run_lines S σ₀ steps
-  running-all {σ} {store} {forward} {reverse} {rows} {counts} {steps} {page} {at} {i} {n} σ₀ h r made =
-      sym (r.whole ∙ rw (drop_of_length-le steps h, lines-nil, append-nil) refl)
+  running_all {σ} {store} {forward} {reverse} {rows} {counts} {steps} {page} {at} {i} {n} σ₀ h r made =
+      sym (r.whole ∙ rw (drop_of_length-le steps h, lines_nil, append-nil) refl)
       ∙ ap (λ (n : Noted). lines_from 1 (steps_from S n.state steps)) made

@@ -17,19 +17,19 @@ update_of entry k bank counts = record { entry = entry; estimate = estimate_at e
 
 -- before it is looked for
 pub record Findable (k : ℕ) (bank : Bank) (p : ℕ) (rows counts : List ℕ) : Type 0 where
-  pub place-small : p < 65536
+  pub place_small : p < 65536
   pub in_rows : bank.index * k + k ≤ length rows
-  pub in-counts : bank.index * k + k ≤ length counts
+  pub in_counts : bank.index * k + k ≤ length counts
   -- a count of the bank can rise by 1
-  pub counts-small : some (λ count. ltb 4294967294 count) (portion k bank.index counts) ≡ false
+  pub counts_small : some (λ count. ltb 4294967294 count) (portion k bank.index counts) ≡ false
 
 -- before its estimate is computed: the count of the entry, if any, can rise by 1
 pub record Countable (entry k : ℕ) (bank : Bank) (counts : List ℕ) : Type 0 where
-  pub in-counts : bank.index * k + k ≤ length counts
+  pub in_counts : bank.index * k + k ≤ length counts
   pub small : entry < bank.index * k + k → get_or counts entry 0 < 4294967295
 
 -- before it is followed: the entry that it changes, if any, lies in the tables
 pub record Followable (u : Update) (p : ℕ) (rows counts : List ℕ) : Type 0 where
-  pub place-small : p < 65536
+  pub place_small : p < 65536
   pub in_rows : u.estimate ≢ 0 → u.entry < length rows
-  pub in-counts : u.estimate ≢ 0 → u.entry < length counts
+  pub in_counts : u.estimate ≢ 0 → u.entry < length counts

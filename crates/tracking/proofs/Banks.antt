@@ -9,21 +9,21 @@ use lib.ListN.{length}
 use borrow.Author.Tests.{lt-ltb, le-ltb, eqb-false}
 use Rattle.basics.proofs.Cases.{split, lt?}
 use Rattle.basics.specs.Portions.{portion, with_portion}
-use Rattle.basics.proofs.Portions.{length-portion, get_or-portion, set-portion, portion-own}
+use Rattle.basics.proofs.Portions.{length-portion, get_or-portion, set-portion, portion_own}
 use Rattle.scan.specs.Scan.{index_of}
 use Rattle.tracking.specs.Track.{Tracked, track}
 use Rattle.tracking.specs.Entry.{entry_of, entry_found, estimate_at, table_after, spill_after}
-use Rattle.tracking.proofs.Entries.{followed, follow-entry}
+use Rattle.tracking.proofs.Entries.{followed, follow_entry}
 
-module _ (k c : ℕ) (rows counts : List ℕ) (rows_fit : c * k + k ≤ length rows) (counts-fit : c * k + k ≤ length counts) (p spill : ℕ) where
+module _ (k c : ℕ) (rows counts : List ℕ) (rows_fit : c * k + k ≤ length rows) (counts_fit : c * k + k ≤ length counts) (p spill : ℕ) where
   rows_long : length (portion k c rows) ≡ k
   rows_long = length-portion k c rows rows_fit
 
-  counts-long : length (portion k c counts) ≡ k
-  counts-long = length-portion k c counts counts-fit
+  counts_long : length (portion k c counts) ≡ k
+  counts_long = length-portion k c counts counts_fit
 
   alike : length (portion k c rows) ≡ length (portion k c counts)
-  alike = rows_long ∙ sym counts-long
+  alike = rows_long ∙ sym counts_long
 
   -- the entry among those of the bank
   abbrev i : ℕ
@@ -40,37 +40,37 @@ module _ (k c : ℕ) (rows counts : List ℕ) (rows_fit : c * k + k ≤ length r
   estimate = estimate_at entry (c * k + k) counts
 
   told : followed i (estimate_at i (length (portion k c counts)) (portion k c counts)) p (portion k c rows) (portion k c counts) spill ≡ t
-  told = follow-entry p (portion k c rows) (portion k c counts) spill alike
+  told = follow_entry p (portion k c rows) (portion k c counts) spill alike
 
-  estimate-is : estimate ≡ estimate_at i (length (portion k c counts)) (portion k c counts)
+  estimate_is : estimate ≡ estimate_at i (length (portion k c counts)) (portion k c counts)
   unfolding entry_found estimate_at
-  estimate-is =
+  estimate_is =
       elim (lt? i k) [
         | inl h ↦
-            let inside : i < length (portion k c counts) = omega (arith, counts-long) in
-            rw (lt-ltb (c * k + i) (c * k + k) (omega arith), lt-ltb i (length (portion k c counts)) inside) (ap suc (sym (get_or-portion k c counts counts-fit i 0 h)))
+            let inside : i < length (portion k c counts) = omega (arith, counts_long) in
+            rw (lt-ltb (c * k + i) (c * k + k) (omega arith), lt-ltb i (length (portion k c counts)) inside) (ap suc (sym (get_or-portion k c counts counts_fit i 0 h)))
         | inr h ↦
-            let outside : length (portion k c counts) ≤ i = omega (arith, counts-long) in
+            let outside : length (portion k c counts) ≤ i = omega (arith, counts_long) in
             rw (le-ltb (c * k + i) (c * k + k) (omega arith), le-ltb i (length (portion k c counts)) outside)
       ]
 
   -- an entry with an estimate is one of the bank's
-  pub entry_in-bank : estimate ≢ 0 → entry < c * k + k
+  pub entry_in_bank : estimate ≢ 0 → entry < c * k + k
   unfolding estimate_at
-  entry_in-bank n =
+  entry_in_bank n =
       elim (lt? entry (c * k + k)) [ inl h ↦ h | inr h ↦ absurd (n (rw (le-ltb entry (c * k + k) h))) ]
 
-  inside-bank : estimate ≢ 0 → i < k
+  inside_bank : estimate ≢ 0 → i < k
   unfolding entry_found
-  inside-bank n = omega (arith, entry_in-bank n)
+  inside_bank n = omega (arith, entry_in_bank n)
 
   -- ---- what is left
 
   pub estimate-in : estimate ≡ t.estimate
-  estimate-in = estimate-is ∙ ap (λ (u : Tracked). u.estimate) told
+  estimate-in = estimate_is ∙ ap (λ (u : Tracked). u.estimate) told
 
-  pub spill-in : spill_after estimate spill ≡ t.spill
-  spill-in = ap (λ (e : ℕ). spill_after e spill) estimate-is ∙ ap (λ (u : Tracked). u.spill) told
+  pub spill_in : spill_after estimate spill ≡ t.spill
+  spill_in = ap (λ (e : ℕ). spill_after e spill) estimate_is ∙ ap (λ (u : Tracked). u.spill) told
 
   -- a table's entry of the bank gets x
   shift : (table : List ℕ) → c * k + k ≤ length table → (x : ℕ)
@@ -78,20 +78,20 @@ module _ (k c : ℕ) (rows counts : List ℕ) (rows_fit : c * k + k ≤ length r
   unfolding entry_found table_after
   shift table fits x =
       elim (split (eqb estimate 0)) [
-        | inl z ↦ rw z (sym (portion-own k c table fits))
-        | inr n ↦ rw n (sym (set-portion k c table fits i x (inside-bank (eqb-false estimate 0 n))))
+        | inl z ↦ rw z (sym (portion_own k c table fits))
+        | inr n ↦ rw n (sym (set-portion k c table fits i x (inside_bank (eqb-false estimate 0 n))))
       ]
 
   pub rows_in : table_after entry estimate p rows ≡ with_portion k c rows t.rows
   rows_in =
       shift rows rows_fit p
-      ∙ ap (λ (e : ℕ). with_portion k c rows (table_after i e p (portion k c rows))) estimate-is
+      ∙ ap (λ (e : ℕ). with_portion k c rows (table_after i e p (portion k c rows))) estimate_is
       ∙ ap (λ (u : Tracked). with_portion k c rows u.rows) told
 
-  pub counts-in : table_after entry estimate estimate counts ≡ with_portion k c counts t.counts
-  counts-in =
-      shift counts counts-fit estimate
-      ∙ ap (λ (e : ℕ). with_portion k c counts (table_after i e e (portion k c counts))) estimate-is
+  pub counts_in : table_after entry estimate estimate counts ≡ with_portion k c counts t.counts
+  counts_in =
+      shift counts counts_fit estimate
+      ∙ ap (λ (e : ℕ). with_portion k c counts (table_after i e e (portion k c counts))) estimate_is
       ∙ ap (λ (u : Tracked). with_portion k c counts u.counts) told
 
   -- ---- told by what the two searches of the bank's entries answer

@@ -10,7 +10,7 @@ use lib.Seq.{set-get_or}
 use borrow.Author.Tests.{lt-ltb, le-ltb}
 use Rattle.basics.proofs.Cases.{split, lt?}
 use Rattle.scan.specs.Scan.{index_of}
-use Rattle.scan.proofs.Scans.{index-found}
+use Rattle.scan.proofs.Scans.{index_found}
 use Rattle.tracking.specs.Track.{Tracked, track}
 use Rattle.tracking.specs.Entry.{entry_of, estimate_at, table_after, spill_after}
 
@@ -24,27 +24,27 @@ followed i estimate p rows counts spill =
       estimate = estimate;
     }
 
-table_after-long : (i estimate x : ℕ) (table : List ℕ) → length (table_after i estimate x table) ≡ length table
+table_after_long : (i estimate x : ℕ) (table : List ℕ) → length (table_after i estimate x table) ≡ length table
 unfolding table_after
-table_after-long i estimate x table = elim (split (eqb estimate 0)) [ inl e ↦ rw e | inr e ↦ rw e (length-set table i _) ]
+table_after_long i estimate x table = elim (split (eqb estimate 0)) [ inl e ↦ rw e | inr e ↦ rw e (length-set table i _) ]
 
 module _ (p : ℕ) (rows counts : List ℕ) (spill : ℕ) (long : length rows ≡ length counts) where
-  pub follow-entry : followed (entry_of p rows counts spill) (estimate_at (entry_of p rows counts spill) (length counts) counts) p rows counts spill
+  pub follow_entry : followed (entry_of p rows counts spill) (estimate_at (entry_of p rows counts spill) (length counts) counts) p rows counts spill
       ≡ track p rows counts spill
   unfolding entry_of estimate_at table_after spill_after track
-  follow-entry =
+  follow_entry =
       let i : ℕ = index_of p rows in
       let j : ℕ = index_of spill counts in
       elim (lt? i (length rows)) [
         | inl h ↦
             let inside : i < length counts = omega arith in
-            let same : set rows i p ≡ rows = ap (set rows i) (sym (index-found p rows 0 h)) ∙ set-get_or rows i 0 in
+            let same : set rows i p ≡ rows = ap (set rows i) (sym (index_found p rows 0 h)) ∙ set-get_or rows i 0 in
             rw (lt-ltb i (length rows) h, lt-ltb i (length counts) inside, eqb-suc-zero (get_or counts i 0), same)
         | inr h ↦ rw (le-ltb i (length rows) h) (elim (lt? j (length counts)) [
-          | inl k ↦ rw (lt-ltb j (length counts) k, eqb-suc-zero (get_or counts j 0), index-found spill counts 0 k)
+          | inl k ↦ rw (lt-ltb j (length counts) k, eqb-suc-zero (get_or counts j 0), index_found spill counts 0 k)
           | inr k ↦ rw (le-ltb j (length counts) k)
         ])
       ]
 
-  pub track-long : (length (track p rows counts spill).rows ≡ length rows) × (length (track p rows counts spill).counts ≡ length counts)
-  track-long = rw (← follow-entry) (table_after-long _ _ _ rows, table_after-long _ _ _ counts)
+  pub track_long : (length (track p rows counts spill).rows ≡ length rows) × (length (track p rows counts spill).counts ≡ length counts)
+  track_long = rw (← follow_entry) (table_after_long _ _ _ rows, table_after_long _ _ _ counts)

@@ -10,39 +10,39 @@ use lib.ListN.{length, get_or, set, replicate, get_or-eq_default}
 use borrow.Author.Tests.{lt-ltb, le-ltb}
 use Rattle.basics.proofs.Cases.{eq?, lt?}
 use Rattle.scan.specs.Scan.{index_of}
-use Rattle.scan.proofs.Scans.{index-found, index-none}
+use Rattle.scan.proofs.Scans.{index_found, index_none}
 use Rattle.tracking.specs.Track.{Tracked, track}
 use Rattle.tracking.proofs.Sums.{sum_by, sum-set, sum_zeros}
-use Rattle.tracking.proofs.Tracking.{estimate_of, one-if}
+use Rattle.tracking.proofs.Tracking.{estimate_of, one_if}
 
 -- how many entries have counted
 abbrev pub busy : List ℕ → ℕ
-busy counts = sum_by (λ c. one-if (ltb 0 c)) counts
+busy counts = sum_by (λ c. one_if (ltb 0 c)) counts
 
-pub busy-new : (k : ℕ) → busy (replicate k 0) ≡ 0
-busy-new k = sum_zeros (λ c. one-if (ltb 0 c)) k refl
+pub busy_new : (k : ℕ) → busy (replicate k 0) ≡ 0
+busy_new k = sum_zeros (λ c. one_if (ltb 0 c)) k refl
 
 -- all of them, where no count is 0
-busy-all : (counts : List ℕ) → ((i : ℕ) → i < length counts → get_or counts i 0 ≢ 0) → busy counts ≡ length counts
+busy_all : (counts : List ℕ) → ((i : ℕ) → i < length counts → get_or counts i 0 ≢ 0) → busy counts ≡ length counts
 unfolding sum_by
-busy-all [] some = refl
-busy-all (c ∷ counts) some =
+busy_all [] some = refl
+busy_all (c ∷ counts) some =
     let here : c ≢ 0 = some 0 (zero-lt-suc _) in
-    rw (lt-ltb 0 c (omega arith)) (omega (arith, busy-all counts (λ i b. some (suc i) (suc-le-suc b))))
+    rw (lt-ltb 0 c (omega arith)) (omega (arith, busy_all counts (λ i b. some (suc i) (suc-le-suc b))))
 
 -- an entry counts on
 module _ (counts : List ℕ) (i v : ℕ) (inside : i < length counts) where
-  changed : busy (set counts i (suc v)) + one-if (ltb 0 (get_or counts i 0)) ≡ busy counts + one-if (ltb 0 (suc v))
-  changed = sum-set (λ c. one-if (ltb 0 c)) counts i (suc v) inside
+  changed : busy (set counts i (suc v)) + one_if (ltb 0 (get_or counts i 0)) ≡ busy counts + one_if (ltb 0 (suc v))
+  changed = sum-set (λ c. one_if (ltb 0 c)) counts i (suc v) inside
 
-  busy-again : get_or counts i 0 ≢ 0 → busy (set counts i (suc v)) ≡ busy counts
-  busy-again some =
+  busy_again : get_or counts i 0 ≢ 0 → busy (set counts i (suc v)) ≡ busy counts
+  busy_again some =
       let same : busy (set counts i (suc v)) + 1 ≡ busy counts + 1 =
       rw (lt-ltb 0 (get_or counts i 0) (omega arith), lt-ltb 0 (suc v) (zero-lt-suc v)) at changed in
       omega arith
 
-  busy-more : get_or counts i 0 ≡ 0 → busy (set counts i (suc v)) ≡ busy counts + 1
-  busy-more none =
+  busy_more : get_or counts i 0 ≡ 0 → busy (set counts i (suc v)) ≡ busy counts + 1
+  busy_more none =
       let more : busy (set counts i (suc v)) + 0 ≡ busy counts + 1 =
       rw (none, lt-ltb 0 (suc v) (zero-lt-suc v)) at changed in
       omega arith
@@ -55,9 +55,9 @@ pub record Spared (most : ℕ) (t : Tracked) : Type 0 where
 -- used: the entries that have counted at most; most: the same after step 2, one more for a place that is new
 module _ (p : ℕ) (rows counts : List ℕ) (used most : ℕ) (long : length rows ≡ length counts) (few : busy counts ≤ used)
     (kept : used ≤ most) (within : most ≤ length counts) where
-  spared-0 : (estimate_of rows counts 0 p ≡ 0 → used < most) → Spared most (track p rows counts 0)
+  spared_0 : (estimate_of rows counts 0 p ≡ 0 → used < most) → Spared most (track p rows counts 0)
   unfolding track estimate_of
-  spared-0 more =
+  spared_0 more =
       elim (lt? (index_of p rows) (length rows)) [
         | inl h ↦
             let i : ℕ = index_of p rows in
@@ -65,8 +65,8 @@ module _ (p : ℕ) (rows counts : List ℕ) (used most : ℕ) (long : length row
             (record {
               spill = refl;
               few = elim (eq? (get_or counts i 0) 0) [
-                | inl z ↦ omega (arith, busy-more counts i (get_or counts i 0) (omega arith) z, more z)
-                | inr n ↦ omega (arith, busy-again counts i (get_or counts i 0) (omega arith) n)
+                | inl z ↦ omega (arith, busy_more counts i (get_or counts i 0) (omega arith) z, more z)
+                | inr n ↦ omega (arith, busy_again counts i (get_or counts i 0) (omega arith) n)
               ];
             })
         | inr h ↦
@@ -77,12 +77,12 @@ module _ (p : ℕ) (rows counts : List ℕ) (used most : ℕ) (long : length row
                   rw (lt-ltb (index_of 0 counts) (length counts) k)
                   (record {
                     spill = refl;
-                    few = omega (arith, busy-more counts (index_of 0 counts) 0 k (index-found 0 counts 0 k));
+                    few = omega (arith, busy_more counts (index_of 0 counts) 0 k (index_found 0 counts 0 k));
                   })
-              | inr k ↦ omega (arith, busy-all counts (index-none 0 counts 0 k))
+              | inr k ↦ omega (arith, busy_all counts (index_none 0 counts 0 k))
             ])
       ]
 
   pub spared : (spill : ℕ) → spill ≡ 0 → (estimate_of rows counts spill p ≡ 0 → used < most) → Spared most (track p rows counts spill)
   spared spill z =
-      subst (λ (s : ℕ). (estimate_of rows counts s p ≡ 0 → used < most) → Spared most (track p rows counts s)) (sym z) spared-0
+      subst (λ (s : ℕ). (estimate_of rows counts s p ≡ 0 → used < most) → Spared most (track p rows counts s)) (sym z) spared_0

@@ -12,7 +12,7 @@ use lib.Seq.{take_all, take-add}
 use borrow.Author.Tests.{ne_eqb}
 use Rattle.basics.proofs.Cases.{lt?}
 use Rattle.basics.specs.Portions.{portion, with_portion}
-use Rattle.basics.proofs.Portions.{length-portion, portion-own}
+use Rattle.basics.proofs.Portions.{length-portion, portion_own}
 
 unfoldable pub sum_by : (ℕ → ℕ) → List ℕ → ℕ
 sum_by f [] = 0
@@ -36,25 +36,25 @@ unfolding sum_by
 sum_zeros f zero z = refl
 sum_zeros f (suc k) z = omega (arith, sum_zeros f k z)
 
-pub total-low : (m : ℕ) (l : List ℕ) → ((i : ℕ) → i < length l → m ≤ get_or l i 0) → length l * m ≤ total l
+pub total_low : (m : ℕ) (l : List ℕ) → ((i : ℕ) → i < length l → m ≤ get_or l i 0) → length l * m ≤ total l
 unfolding sum_by
-total-low m [] h = omega arith
-total-low m (x ∷ xs) h = omega (arith, total-low m xs (λ i b. h (suc i) (suc-le-suc b)), h zero (zero-lt-suc _))
+total_low m [] h = omega arith
+total_low m (x ∷ xs) h = omega (arith, total_low m xs (λ i b. h (suc i) (suc-le-suc b)), h zero (zero-lt-suc _))
 
-pub total-high : (l : List ℕ) (i : ℕ) → i < length l → get_or l i 0 ≤ total l
+pub total_high : (l : List ℕ) (i : ℕ) → i < length l → get_or l i 0 ≤ total l
 unfolding sum_by
-total-high [] i h = absurd (not-suc-le-zero h)
-total-high (x ∷ xs) zero h = omega arith
-total-high (x ∷ xs) (suc i) h = omega (arith, total-high xs i (le_of_suc-le-suc h))
+total_high [] i h = absurd (not-suc-le-zero h)
+total_high (x ∷ xs) zero h = omega arith
+total_high (x ∷ xs) (suc i) h = omega (arith, total_high xs i (le_of_suc-le-suc h))
 
-pub quotients-low : (a : ℕ) (l : List ℕ) → quotients a l * a ≤ total l
+pub quotients_low : (a : ℕ) (l : List ℕ) → quotients a l * a ≤ total l
 unfolding sum_by
-quotients-low a [] = omega arith
-quotients-low a (x ∷ xs) = omega (arith, quotients-low a xs, div-mul-le_self x a)
+quotients_low a [] = omega arith
+quotients_low a (x ∷ xs) = omega (arith, quotients_low a xs, div-mul-le_self x a)
 
 -- the quotient of the next number: one more where a divides it
-pub suc-div : (a c : ℕ) → zero < a → suc c / a ≡ c / a + cond (eqb (suc c % a) 0) 1 0
-suc-div a c h =
+pub suc_div : (a c : ℕ) → zero < a → suc c / a ≡ c / a + cond (eqb (suc c % a) 0) 1 0
+suc_div a c h =
     let r : c / a * a + c % a ≡ c = div-add-mod' c a in
     let b : c % a < a = mod-lt c h in
     elim (lt? (suc (c % a)) a) [
@@ -92,7 +92,7 @@ module _ (f : ℕ → ℕ) (k : ℕ) (xs : List ℕ) where
     -- one portion is replaced
     pub sum-portion : (new : List ℕ) → length new ≡ k → sum_by f (with_portion k c xs new) + sum_by f (portion k c xs) ≡ sum_by f xs + sum_by f new
     sum-portion new same =
-        let was : sum_by f xs ≡ sum_by f (with_portion k c xs (portion k c xs)) = ap (sum_by f) (sym (portion-own k c xs fits)) in
+        let was : sum_by f xs ≡ sum_by f (with_portion k c xs (portion k c xs)) = ap (sum_by f) (sym (portion_own k c xs fits)) in
         omega (arith, was, sum-put new same, sum-put (portion k c xs) (length-portion k c xs fits))
 
   sum_first : (m n : ℕ) → ((c : ℕ) → c < n → sum_by f (portion k c xs) ≤ m) → sum_by f (take (n * k) xs) ≤ n * m
@@ -105,5 +105,5 @@ module _ (f : ℕ → ℕ) (k : ℕ) (xs : List ℕ) where
       omega (arith, parts, suc-mul n m, sum_first m n (λ c b. each c (omega arith)), each n (le_refl (suc n)))
 
   -- each of b portions has at most m
-  pub sum-portions : (m b : ℕ) → length xs ≡ b * k → ((c : ℕ) → c < b → sum_by f (portion k c xs) ≤ m) → sum_by f xs ≤ b * m
-  sum-portions m b long each = rw (take_all (b * k) xs (omega arith)) at (sum_first m b each)
+  pub sum_portions : (m b : ℕ) → length xs ≡ b * k → ((c : ℕ) → c < b → sum_by f (portion k c xs) ≤ m) → sum_by f xs ≤ b * m
+  sum_portions m b long each = rw (take_all (b * k) xs (omega arith)) at (sum_first m b each)

@@ -14,12 +14,12 @@ use borrow.Author.Tests.{eq-eqb, ne_eqb, lt-ltb, le-ltb, le-leb, lt-leb}
 use Rattle.geometry.specs.Entry.{empty}
 use Rattle.basics.proofs.Cases.{split, lt?}
 use Rattle.scan.specs.Scan.{lowest, index_of}
-use Rattle.scan.proofs.Scans.{lowest-le, index-found, index-set-other, index-set-either, index-set-new}
+use Rattle.scan.proofs.Scans.{lowest_le, index_found, index_set_other, index_set_either, index_set-new}
 use Rattle.tracking.specs.Track.{Tracked, track, is_due}
 use Rattle.tracking.specs.Worn.{worn}
 use Rattle.tracking.specs.Entry.{entry_of}
 use Rattle.tracking.proofs.Sums.{get_d_any}
-use Rattle.tracking.proofs.Due.{due-least}
+use Rattle.tracking.proofs.Due.{due_least}
 use Rattle.tracking.proofs.Tracking.{estimate_of}
 
 -- where `spill` is below the threshold, it follows from the estimate
@@ -40,14 +40,14 @@ pub worn-told : (a : ℕ) (rows counts : List ℕ) (x i : ℕ) → i ≡ index_o
 unfolding worn
 worn-told a rows counts x i e h = rw (← e, lt-ltb i (length rows) h)
 
-pub worn-unnamed : (a : ℕ) (rows counts : List ℕ) (x i : ℕ) → i ≡ index_of x rows → length rows ≤ i
+pub worn_unnamed : (a : ℕ) (rows counts : List ℕ) (x i : ℕ) → i ≡ index_of x rows → length rows ≤ i
     → false ≡ worn a rows counts x
 unfolding worn
-worn-unnamed a rows counts x i e h = rw (← e, le-ltb i (length rows) h)
+worn_unnamed a rows counts x i e h = rw (← e, le-ltb i (length rows) h)
 
 -- a row that an entry names with a count of the threshold or more
-worn-at : (a : ℕ) (rows counts : List ℕ) (x i : ℕ) → index_of x rows ≡ i → i < length rows → a ≤ get_or counts i 0 → worn a rows counts x ≡ true
-worn-at a rows counts x i e h k = sym (worn-told a rows counts x i (sym e) h) ∙ le-leb a (get_or counts i 0) k
+worn_at : (a : ℕ) (rows counts : List ℕ) (x i : ℕ) → index_of x rows ≡ i → i < length rows → a ≤ get_or counts i 0 → worn a rows counts x ≡ true
+worn_at a rows counts x i e h k = sym (worn-told a rows counts x i (sym e) h) ∙ le-leb a (get_or counts i 0) k
 
 -- ---- told by the entries from i on: entry i names the row, or another
 
@@ -68,38 +68,38 @@ module _ (a : ℕ) (rows counts : List ℕ) (x i : ℕ) (long : length rows ≡ 
       rw (add-one, drop-cons rows i 0 inside, drop-cons counts i 0 within)
       (worn-first a (get_or rows i 0) (drop (suc i) rows) (get_or counts i 0) (drop (suc i) counts) x)
 
-  pub worn-here : get_or rows i 0 ≡ x → worn a (drop i rows) (drop i counts) x ≡ leb a (get_or counts i 0)
-  worn-here e = worn-from ∙ rw (eq-eqb (get_or rows i 0) x e)
+  pub worn_here : get_or rows i 0 ≡ x → worn a (drop i rows) (drop i counts) x ≡ leb a (get_or counts i 0)
+  worn_here e = worn-from ∙ rw (eq-eqb (get_or rows i 0) x e)
 
-  pub worn-past : get_or rows i 0 ≢ x
+  pub worn_past : get_or rows i 0 ≢ x
       → worn a (drop i rows) (drop i counts) x ≡ worn a (drop (i + 1) rows) (drop (i + 1) counts) x
-  worn-past n = worn-from ∙ rw (ne_eqb (get_or rows i 0) x n)
+  worn_past n = worn-from ∙ rw (ne_eqb (get_or rows i 0) x n)
 
 -- no entry is left
-pub worn-none : (a : ℕ) (rows counts : List ℕ) (x i : ℕ) → length rows ≤ i → worn a (drop i rows) counts x ≡ false
+pub worn_none : (a : ℕ) (rows counts : List ℕ) (x i : ℕ) → length rows ≤ i → worn a (drop i rows) counts x ≡ false
 unfolding worn lowest
-worn-none a rows counts x i h = rw (drop_of_length-le rows h, le-ltb 0 0 (omega arith))
+worn_none a rows counts x i h = rw (drop_of_length-le rows h, le-ltb 0 0 (omega arith))
 
 module _ (a p : ℕ) (rows counts : List ℕ) (spill : ℕ) (long : length rows ≡ length counts) where
   abbrev after : Tracked
   after = track p rows counts spill
 
   -- a place whose estimate calls for a move is worn, in any tables
-  pub due-worn : is_due a after.estimate ≡ true → worn a after.rows after.counts p ≡ true
+  pub due_worn : is_due a after.estimate ≡ true → worn a after.rows after.counts p ≡ true
   unfolding track
-  due-worn =
+  due_worn =
       let i : ℕ = index_of p rows in
       let j : ℕ = index_of spill counts in
       elim (lt? i (length rows)) [
         | inl h ↦ rw (lt-ltb i (length rows) h) (λ d.
             let c : ℕ = suc (get_or counts i 0) in
             let here : get_or (set counts i c) i 0 ≡ c = get_or-set_same counts i c 0 (omega arith) in
-            worn-at a rows (set counts i c) p i refl h (rw here (due-least a c d)))
+            worn_at a rows (set counts i c) p i refl h (rw here (due_least a c d)))
         | inr h ↦ rw (le-ltb i (length rows) h) (elim (lt? j (length counts)) [
           | inl k ↦ rw (lt-ltb j (length counts) k) (λ d.
               let here : get_or (set counts j (suc spill)) j 0 ≡ suc spill = get_or-set_same counts j (suc spill) 0 k in
-              let idx : index_of p (set rows j p) ≡ j = index-set-new p rows j (omega arith) (le_antisymm (lowest-le (λ x. eqb x p) rows) h) in
-              worn-at a (set rows j p) (set counts j (suc spill)) p j idx (omega (arith, length-set rows j p)) (rw here (due-least a (suc spill) d)))
+              let idx : index_of p (set rows j p) ≡ j = index_set-new p rows j (omega arith) (le_antisymm (lowest_le (λ x. eqb x p) rows) h) in
+              worn_at a (set rows j p) (set counts j (suc spill)) p j idx (omega (arith, length-set rows j p)) (rw here (due_least a (suc spill) d)))
           | inr k ↦ rw (le-ltb j (length counts) k) (λ d. absurd (false≢true d))
         ])
       ]
@@ -116,7 +116,7 @@ module _ (a p : ℕ) (rows counts : List ℕ) (spill : ℕ) (long : length rows 
         (elim (lt? m (length rows)) [
           | inl k ↦
               let apart : m ≢ i = λ e.
-              named (sym (index-found x (set rows i empty) 0 (omega (arith, length-set rows i empty)))
+              named (sym (index_found x (set rows i empty) 0 (omega (arith, length-set rows i empty)))
               ∙ ap (λ (n : ℕ). get_or (set rows i empty) n 0) e ∙ get_or-set_same rows i empty 0 h) in
               rw (lt-ltb m (length rows) k, get_or-set_other counts i m c 0 apart)
           | inr k ↦ rw (le-ltb m (length rows) k)
@@ -130,11 +130,11 @@ module _ (a p : ℕ) (rows counts : List ℕ) (spill : ℕ) (long : length rows 
         let j : ℕ = index_of spill counts in
         elim (lt? i (length rows)) [
           | inl h ↦ rw (lt-ltb i (length rows) h) (λ d.
-              let differs : get_or rows i 0 ≢ x = λ e. other (sym e ∙ index-found p rows 0 h) in
-              beside i (suc (get_or counts i 0)) rows h (sym (index-set-other x rows i empty 0 named differs)) refl)
+              let differs : get_or rows i 0 ≢ x = λ e. other (sym e ∙ index_found p rows 0 h) in
+              beside i (suc (get_or counts i 0)) rows h (sym (index_set_other x rows i empty 0 named differs)) refl)
           | inr h ↦ rw (le-ltb i (length rows) h) (elim (lt? j (length counts)) [
             | inl k ↦ rw (lt-ltb j (length counts) k) (λ d.
-                beside j (suc spill) (set rows j p) (omega arith) (index-set-either x rows j p empty other named) (length-set rows j p))
+                beside j (suc spill) (set rows j p) (omega arith) (index_set_either x rows j p empty other named) (length-set rows j p))
             | inr k ↦ rw (le-ltb j (length counts) k) (λ d. absurd (false≢true d))
           ])
         ]

@@ -16,7 +16,7 @@ use Rattle.engine.specs.Round.{skipped_of, destination_from}
 use Rattle.engine.specs.Steps.{place, moves, skipped, destination, rise}
 use Rattle.engine.specs.Ladder.{stops, ◌▹◌, destination_unsound, row_number, tick_number, access_number}
 use Rattle.engine.proofs.Rungs.{goes_by, goes_on, joined, applies}
-use Rattle.engine.proofs.Skipping.{skip-most, cut_short, cut-full}
+use Rattle.engine.proofs.Skipping.{skip_most, cut_short, cut_full}
 use Rattle.ladder.proofs.Stages.{ends, early_number}
 use Rattle.verdict.specs.declared.Verdict.{Verdict}
 use Rattle.verdict.specs.Verdicts.{stopped, sent, quarantine_number, quarantine_verdict}
@@ -47,19 +47,19 @@ module _ (S : Settings) (ring : Ring) (tables : Tables) (over : ℕ) where
 
   -- what a verdict tells
   module _ (v : Verdict) (is : v ≡ quarantine_verdict S ring tables over) where
-    pub verdict-stops : v.number ≡ quarantine_number S ring tables over
+    pub verdict_stops : v.number ≡ quarantine_number S ring tables over
     unfolding quarantine_verdict
-    verdict-stops =
+    verdict_stops =
         elim (split (eqb (quarantine_number S ring tables over) 0)) [
           | inl z ↦ rw (is, z) (sym (eqb-true _ 0 z))
           | inr z ↦ rw (is, z)
         ]
 
-    pub verdict-sent : v.number ≡ 0 →
+    pub verdict_sent : v.number ≡ 0 →
         let d : ℕ = destination_from S ring.head over in v ≡ sent d (reverse_in tables d) (suc over)
     unfolding quarantine_verdict
-    verdict-sent z =
-        let none : quarantine_number S ring tables over ≡ 0 = sym verdict-stops ∙ z in
+    verdict_sent z =
+        let none : quarantine_number S ring tables over ≡ 0 = sym verdict_stops ∙ z in
         is ∙ rw none
 
 -- ---- the search and the judgement: the code looks for skipped slots among those that are not gone by, the ladder among all
@@ -67,12 +67,12 @@ module _ (S : Settings) (ring : Ring) (tables : Tables) (over : ℕ) where
 -- n: how many the code finds
 module _ (S : Settings) (ring : Ring) (tables : Tables) (skip : ℕ → Bool) (most : ring.passed ≤ S.q) {n : ℕ}
     (found : n ≡ skipped_of skip S.q (S.q - ring.passed) ring.head) where
-  pub over-in : n ≤ S.q
-  over-in = omega (arith, skip-most skip S.q (S.q - ring.passed) ring.head)
+  pub over_in : n ≤ S.q
+  over_in = omega (arith, skip_most skip S.q (S.q - ring.passed) ring.head)
 
   -- where they are all that are left, 9 applies to both; else they are all
-  pub verdict-of-all : quarantine_verdict S ring tables n ≡ quarantine_verdict S ring tables (skipped_of skip S.q S.q ring.head)
-  verdict-of-all =
+  pub verdict_of_all : quarantine_verdict S ring tables n ≡ quarantine_verdict S ring tables (skipped_of skip S.q S.q ring.head)
+  verdict_of_all =
       let left : ℕ = S.q - ring.passed in
       let all : ℕ = skipped_of skip S.q S.q ring.head in
       elim (lt? (ring.passed + n) S.q) [
@@ -80,7 +80,7 @@ module _ (S : Settings) (ring : Ring) (tables : Tables) (skip : ℕ → Bool) (m
             let same = cut_short skip S.q left S.q ring.head (omega arith) (omega arith) in
             ap (quarantine_verdict S ring tables) (found ∙ sym same)
         | inr full ↦
-            let none : left ≤ all = cut-full skip S.q left S.q ring.head (omega arith) (omega arith) in
+            let none : left ≤ all = cut_full skip S.q left S.q ring.head (omega arith) (omega arith) in
             sym (no_room S ring tables n full) ∙ no_room S ring tables all (omega arith)
       ]
 
@@ -104,32 +104,32 @@ module _ (S : Settings) (σ : State) (a : Asked) where
   abbrev late : ℕ
   late = stops (eqb acts S.l) 8 ▹ last (moves S σ r)
 
-  access-is : early_number S σ a ▹ late ≡ access_number S σ a
+  access_is : early_number S σ a ▹ late ≡ access_number S σ a
   unfolding access_number
-  access-is = joined (tick_number S σ) (row_number S σ.tables a) late
+  access_is = joined (tick_number S σ) (row_number S σ.tables a) late
 
   -- x: the number of 1 to 7, as the code has it
-  pub access-early : (x : ℕ) → x ≡ early_number S σ a → x ≢ 0 → x ≡ access_number S σ a
-  access-early x e n = ends late e n ∙ access-is
+  pub access_early : (x : ℕ) → x ≡ early_number S σ a → x ≢ 0 → x ≡ access_number S σ a
+  access_early x e n = ends late e n ∙ access_is
 
   -- past 1 to 7
   module _ (z : early_number S σ a ≡ 0) where
-    access-late : late ≡ access_number S σ a
-    access-late = sym (goes_on late z) ∙ access-is
+    access_late : late ≡ access_number S σ a
+    access_late = sym (goes_on late z) ∙ access_is
 
-    pub access-8 : acts ≡ S.l → 8 ≡ access_number S σ a
-    access-8 e = ends _ (sym (applies 8 (eq-eqb _ _ e))) (λ n. omega arith) ∙ access-late
+    pub access_8 : acts ≡ S.l → 8 ≡ access_number S σ a
+    access_8 e = ends _ (sym (applies 8 (eq-eqb _ _ e))) (λ n. omega arith) ∙ access_late
 
     -- past 8
     module _ (more : acts ≢ S.l) where
-      access-last : {due : Bool} → moves S σ r ≡ due → last due ≡ access_number S σ a
-      access-last e = sym (ap last e) ∙ sym (goes_on _ (goes_by 8 (ne_eqb _ _ more))) ∙ access-late
+      access_last : {due : Bool} → moves S σ r ≡ due → last due ≡ access_number S σ a
+      access_last e = sym (ap last e) ∙ sym (goes_on _ (goes_by 8 (ne_eqb _ _ more))) ∙ access_late
 
-      pub access-stays : moves S σ r ≡ false → access_number S σ a ≡ 0
+      pub access_stays : moves S σ r ≡ false → access_number S σ a ≡ 0
       unfolding stops ◌▹◌
-      access-stays f = sym (access-last f)
+      access_stays f = sym (access_last f)
 
-      pub access-moves : moves S σ r ≡ true
+      pub access_moves : moves S σ r ≡ true
           → quarantine_number S (ring_of σ.control) σ.tables (skipped S σ r) ≡ access_number S σ a
       unfolding quarantine_number
-      access-moves f = access-last f
+      access_moves f = access_last f

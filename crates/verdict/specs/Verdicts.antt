@@ -38,8 +38,8 @@ quarantine_verdict S ring tables over =
 pub record Judgeable (S : Settings) (ring : Ring) (over : ℕ) (forward reverse : List ℕ) : Type 0 where
   pub tabled : Tabled S forward reverse
   pub head_in : ring.head < S.q
-  pub passed-in : ring.passed ≤ S.q
-  pub over-in : over ≤ S.q
+  pub passed_in : ring.passed ≤ S.q
+  pub over_in : over ≤ S.q
 
 -- the slots that the head skips for the row that was found, computed before step 2 is done
 abbrev pub skipped_for : Settings → Ring → Found → List ℕ → List ℕ → ℕ
@@ -50,4 +50,4 @@ pub record Decidable (S : Settings) (ring : Ring) (f : Found) (forward reverse r
   pub seekable : Seekable S f.update.entry rows counts
   pub tabled : Tabled S forward reverse
   pub head_in : ring.head < S.q
-  pub passed-in : ring.passed ≤ S.q
+  pub passed_in : ring.passed ≤ S.q

@@ -1,6 +1,6 @@
 -- An array, with another value at one place: its machine value, and that it is related to its elements.
---     set-val, set_is      of an array whose elements are a field's values
---     row-set-val, row-set_is      the same of an array of a type whose machine value is a function of what it denotes
+--     set_val, set_is      of an array whose elements are a field's values
+--     row-set_val, row_set_is      the same of an array of a type whose machine value is a function of what it denotes
 -- Assumes nothing.
 use mathlib.Core.Path.{◌≡◌, refl, sym, ap, subst, ◌∙◌}
 use Prim.Native.Nat.{ℕ, zero, suc}
@@ -25,11 +25,11 @@ module _ (R : RattleType) (val : R.Denot → Val) where
   abbrev vals : List R.Denot → List Val
   vals ys = map val ys
 
-  pub row-set-val : (ys : List R.Denot) (i : ℕ) (y : R.Denot)
+  pub row-set_val : (ys : List R.Denot) (i : ℕ) (y : R.Denot)
       → set_v (of_list (vals ys)) i (val y) ≡ of_list (vals (set ys i y))
-  row-set-val [] i y = refl
-  row-set-val (x ∷ ys) zero y = refl
-  row-set-val (x ∷ ys) (suc i) y = ap (vcons (val x)) (row-set-val ys i y)
+  row-set_val [] i y = refl
+  row-set_val (x ∷ ys) zero y = refl
+  row-set_val (x ∷ ys) (suc i) y = ap (vcons (val x)) (row-set_val ys i y)
 
   -- each of ys is related to its machine value among us
   abbrev Each : List R.Denot → List Val → Type 0
@@ -48,9 +48,9 @@ module _ (R : RattleType) (val : R.Denot → Val) where
     each_set (x ∷ ys) zero y is s = (is, s.1)
     each_set (x ∷ ys) (suc i) y is s = (s.0, each_set ys i y is s.1)
 
-    pub row-set_is : (n : ℕ) (ys : List R.Denot) (i : ℕ) (y : R.Denot) {vs : List Val} → Is (Array R n) ys vs
+    pub row_set_is : (n : ℕ) (ys : List R.Denot) (i : ℕ) (y : R.Denot) {vs : List Val} → Is (Array R n) ys vs
         → Is R y (val y ∷ []) → Is (Array R n) (set ys i y) (array_val (vals (set ys i y)) ∷ [])
-    row-set_is n ys i y p is =
+    row_set_is n ys i y p is =
         (vals (set ys i y), ((refl, length-set ys i y ∙ p.1.0.1), each_set ys i y is (spelled ys p.0 p.1.1)))
 
 -- F: a field of the elements' type
@@ -59,17 +59,17 @@ module _ (F : Field) (L : LL.FLaws F) where
   abbrev seen : List F.Value → List F.row.Denot
   seen xs = map F.into xs
 
-  abbrev seen-vals : List F.row.Denot → List Val
-  seen-vals ys = map L.val ys
+  abbrev seen_vals : List F.row.Denot → List Val
+  seen_vals ys = map L.val ys
 
-  pub set-val : (xs : List F.Value) (i : ℕ) (x : F.Value)
-      → set_v (of_list (seen-vals (seen xs))) i (L.val (F.into x)) ≡ of_list (seen-vals (seen (set xs i x)))
-  set-val xs i x =
-      row-set-val F.row L.val (seen xs) i (F.into x) ∙ ap (λ ys. of_list (seen-vals ys)) (sym (map-set F.into xs i x))
+  pub set_val : (xs : List F.Value) (i : ℕ) (x : F.Value)
+      → set_v (of_list (seen_vals (seen xs))) i (L.val (F.into x)) ≡ of_list (seen_vals (seen (set xs i x)))
+  set_val xs i x =
+      row-set_val F.row L.val (seen xs) i (F.into x) ∙ ap (λ ys. of_list (seen_vals ys)) (sym (map-set F.into xs i x))
 
   pub set_is : (n : ℕ) (xs : List F.Value) (i : ℕ) (x : F.Value) {vs : List Val} → Is (Array F.row n) (seen xs) vs
       → Is F.row (F.into x) (L.val (F.into x) ∷ [])
-      → Is (Array F.row n) (seen (set xs i x)) (array_val (seen-vals (seen (set xs i x))) ∷ [])
+      → Is (Array F.row n) (seen (set xs i x)) (array_val (seen_vals (seen (set xs i x))) ∷ [])
   set_is n xs i x p is =
-      subst (λ ys. Is (Array F.row n) ys (array_val (seen-vals ys) ∷ [])) (sym (map-set F.into xs i x))
-      (row-set_is F.row L.val L.tells n (seen xs) i (F.into x) p is)
+      subst (λ ys. Is (Array F.row n) ys (array_val (seen_vals ys) ∷ [])) (sym (map-set F.into xs i x))
+      (row_set_is F.row L.val L.tells n (seen xs) i (F.into x) p is)

@@ -3,7 +3,7 @@
 --     cells E cs       each local of the environment E, with what cs says that it holds and the right to free it
 --     locals 𝓛 E cs    the same as an entry of a context
 --     local-at         a local and its value, as `Types/Part.antt` takes a cell out of an entry
---     sets             a local is written.        typed-in     what a cell holds is a value of its type
+--     sets             a local is written.        typed_in     what a cell holds is a value of its type
 --     behind, operands     a part of what a local points at, and locals as the operands of a call
 -- Assumes `Logic`.
 use mathlib.Core.Path.{◌≡◌, refl, sym, ap, subst}
@@ -55,12 +55,12 @@ module _ {M : Type 1} {𝓤 : Ura M} (𝓛 : Logic 𝓤) where
   cells (l ∷ E) cs = (cell l (first cs) ∗ Dies l) ∗ cells E (later cs)
 
   -- a local that holds v is as it was once v is put into it
-  same-cells : (E : Env 𝓤 H) (i : ℕ) (v : Val) (cs : Contents) → T (takes i (types_of E) v) → content i cs ≡ some v
+  same_cells : (E : Env 𝓤 H) (i : ℕ) (v : Val) (cs : Contents) → T (takes i (types_of E) v) → content i cs ≡ some v
       → cells E (put i v cs) ≡ cells E cs
-  same-cells [] i v cs t e = absurd t
-  same-cells (l ∷ E) zero v cs t e = ap (λ (c : Option Val). (cell l c ∗ Dies l) ∗ cells E (later cs)) (sym e)
-  same-cells (l ∷ E) (suc i) v cs t e =
-      ap (λ (P : SProp 𝓤). (cell l (first cs) ∗ Dies l) ∗ P) (same-cells E i v (later cs) t e)
+  same_cells [] i v cs t e = absurd t
+  same_cells (l ∷ E) zero v cs t e = ap (λ (c : Option Val). (cell l c ∗ Dies l) ∗ cells E (later cs)) (sym e)
+  same_cells (l ∷ E) (suc i) v cs t e =
+      ap (λ (P : SProp 𝓤). (cell l (first cs) ∗ Dies l) ∗ P) (same_cells E i v (later cs) t e)
 
   -- ---- a local is taken out, with the way back: whatever value it is given, all are cells again
   abbrev pub Way : (Val → SProp 𝓤) → (Val → SProp 𝓤) → SProp 𝓤
@@ -84,8 +84,8 @@ module _ {M : Type 1} {𝓤 : Ura M} (𝓛 : Logic 𝓤) where
         qed 𝓛 ((raw X ⊛ raw D) ∷ raw R ∷ []) ∵ split ! $ frame ! $
         each ! (λ (u : Val). wand 𝓤 (Y u) ((Y u ∗ D) ∗ R)) (λ u. assume ! (raw (Y u)) $ join ! $ done !)
 
-    pub later-out : (X P R : SProp 𝓤) (Y F : Val → SProp 𝓤) → R ⊢ P ∗ Way Y F → X ∗ R ⊢ P ∗ Way Y (λ u. X ∗ F u)
-    later-out X P R Y F h =
+    pub later_out : (X P R : SProp 𝓤) (Y F : Val → SProp 𝓤) → R ⊢ P ∗ Way Y F → X ∗ R ⊢ P ∗ Way Y (λ u. X ∗ F u)
+    later_out X P R Y F h =
         qed 𝓛 (raw X ∷ raw R ∷ []) ∵ move ! (1 ∷ []) $ use1 𝓛 (raw P ⊛ raw (Way Y F)) h $ split ! $ frame ! $
         each ! (λ (u : Val). wand 𝓤 (Y u) (X ∗ F u)) (λ u.
         assume ! (raw (Y u)) $ use2 𝓛 (raw (F u)) (back Y F u) $ move ! (1 ∷ 0 ∷ []) $ done !)
@@ -95,7 +95,7 @@ module _ {M : Type 1} {𝓤 : Ura M} (𝓛 : Logic 𝓤) where
     out [] i v cs t = absurd t
     out (l ∷ E) zero v cs t = first_out (cell l (first cs)) (Dies l) (cells E (later cs)) (At l)
     out (l ∷ E) (suc i) v cs t =
-        later-out (cell l (first cs) ∗ Dies l) (cell (local_at E i) (content i (later cs))) (cells E (later cs))
+        later_out (cell l (first cs) ∗ Dies l) (cell (local_at E i) (content i (later cs))) (cells E (later cs))
         (At (local_at E i)) (λ u. cells E (put i u (later cs))) (out E i v (later cs) t)
 
 -- ---- the rules
@@ -113,7 +113,7 @@ module _ {M : Type 1} {𝓤 : Ura M} {𝓛 : Logic 𝓤} {K : Type 0} where
       subst (λ (σ : Ty). Part K 𝓛 (locals 𝓛 E cs) full_share σ (local_at E i).1 zero v (λ u. locals 𝓛 E (put i u cs)))
       type (record {
         out = subst (λ (c : Option Val). ent 𝓤 (cells 𝓛 E cs) (Holds c)) e (out 𝓛 E i v cs takes);
-        same = ap {B = Item 𝓤} raw (same-cells 𝓛 E i v cs takes e);
+        same = ap {B = Item 𝓤} raw (same_cells 𝓛 E i v cs takes e);
       })
 
   pub sets : K → {Γ : List (Item 𝓤)} (E : Env 𝓤 H) (i : ℕ) (v : Val) (cs : Contents) → T (takes i (types_of E) v) → WT v
@@ -130,9 +130,9 @@ module _ {M : Type 1} {𝓤 : Ura M} {𝓛 : Logic 𝓤} {K : Type 0} where
         by ! (via 𝓤 (⋆ 𝓛 (locals 𝓛 E (put i v cs) ∷ Γ)) (push 𝓛 (locals 𝓛 E (put i v cs)) Γ) k));
   }
 
-  pub typed-in : K → {Γ : List (Item 𝓤)} {G : Goal 𝓤 H} {i : Item 𝓤} {q : Share} {τ : Ty} {b o : ℕ} {v : Val}
+  pub typed_in : K → {Γ : List (Item 𝓤)} {G : Goal 𝓤 H} {i : Item 𝓤} {q : Share} {τ : Ty} {b o : ℕ} {v : Val}
       {F : Val → Item 𝓤} → Part K 𝓛 i q τ b o v F → (T (has_ty τ v) × WT v → Seq K 𝓛 (i ∷ Γ) G) → Seq K 𝓛 (i ∷ Γ) G
-  typed-in t {q = q} {τ} {b} {o} {v} {F} p k =
+  typed_in t {q = q} {τ} {b} {o} {v} {F} p k =
       use1 𝓛 (‵ (fat q τ b o v) ⊛ raw (Way 𝓛 (H.at q τ b o) (λ u. mean 𝓛 (F u)))) p.out $ split t $
       well_typed t (λ wt. use2 𝓛 (F v) (back 𝓛 (H.at q τ b o) (λ u. mean 𝓛 (F u)) v) $
       rewrite t 0 (λ (j : Item 𝓤). j) p.same refl $ k wt)

@@ -2,7 +2,7 @@
 --     Terms            what such a contract says.        triple T     it as a Hoare triple, as statements have it
 --     answered, gives  what a caller has once such a function has returned, and what the function has to show
 --     core, entry      the terms of a core, and of an entry of the form F over it
---     Follows          what the core ensures gives what the entry ensures.        handed-on, first-told    two ways to show it
+--     Follows          what the core ensures gives what the entry ensures.        handed_on, first-told    two ways to show it
 -- An entry's terms are at the core's types of the other parameters. A function's own statement has the entry's numbers
 -- of their lifetimes there, but a triple reads only what a type denotes, owns and leaves: they are one by computation.
 -- Assumes `Logic` for the two rules.
@@ -144,8 +144,8 @@ module _ (F : Form) where
 -- ---- how it follows: the entry ensures what the core does, and the form asks nothing of the answer; or the core's first
 -- clause tells what it asks, and the second is what the entry ensures
 module _ {M : Type 1} (𝓤 : Ura M) where
-  pub handed-on : (P : SProp 𝓤) → ent 𝓤 P (guard 𝓤 (Unit {0}) P)
-  handed-on P = guard_i 𝓤 (Unit {0}) P tt
+  pub handed_on : (P : SProp 𝓤) → ent 𝓤 P (guard 𝓤 (Unit {0}) P)
+  handed_on P = guard_i 𝓤 (Unit {0}) P tt
 
   pub first-told : {φ χ ψ : Type 0} → (φ → ψ) → ent 𝓤 (sep 𝓤 (fact 𝓤 φ) (fact 𝓤 χ)) (guard 𝓤 ψ (fact 𝓤 χ))
   first-told {φ} {χ} {ψ} f =

@@ -28,7 +28,7 @@ use denote.Struct.Declared.{Declared, row, fields, shape}
 use denote.Struct.Struct.{Plains, layout}
 use denote.Struct.Laws as LL
 use Rattle.walk.proofs.Locals.{Contents, put, held, contents, takes, taken, arguments, conj}
-use Rattle.walk.proofs.Lending.{Lend, Slices, relends, all-lent, sources, wanted, lendable}
+use Rattle.walk.proofs.Lending.{Lend, Slices, relends, all_lent, sources, wanted, lendable}
 use Rattle.walk.proofs.Cells.{copies}
 use Rattle.walk.proofs.Spelled.{Spelled, pointer, values}
 use Rattle.walk.proofs.Parameters.{Param, count, slots_of, laws, lends_of, slices_of, passes_of}
@@ -121,19 +121,19 @@ module _ (F : Form) where
     slices = slices_of (suc F.copied) F.ps z.κ z.a
 
     abbrev pub at_call : Contents
-    at_call = all-lent lends slices at_copy
+    at_call = all_lent lends slices at_copy
 
     -- the tests: the arguments fit their locals, the slices can be lent on, and the operands of the call are there. The
     -- record is not among them: where it holds arrays, its machine value is of its type only if they have their lengths
     module _ (τs : List Ty) where
-      abbrev pub lent-tests : List Bool
-      lent-tests = lendable lends slices τs
+      abbrev pub lent_tests : List Bool
+      lent_tests = lendable lends slices τs
 
-      abbrev pub passed-tests : List Bool
-      passed-tests = taken (1 ∷ passes_of (suc F.copied) F.ps) τs (pointer z.x ∷ us)
+      abbrev pub passed_tests : List Bool
+      passed_tests = taken (1 ∷ passes_of (suc F.copied) F.ps) τs (pointer z.x ∷ us)
 
       abbrev pub tests : List Bool
-      tests = conj (arguments τs (pointer z.x ∷ us)) ∷ conj lent-tests ∷ conj passed-tests ∷ []
+      tests = conj (arguments τs (pointer z.x ∷ us)) ∷ conj lent_tests ∷ conj passed_tests ∷ []
 
   -- Of a function that is written out each line is shown by computation, whatever its contract says.
   pub record Formed (τs : List Ty) : Type 0 where

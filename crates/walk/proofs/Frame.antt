@@ -21,7 +21,7 @@ use denote.RattleType.{RattleType, Denots, Valss, flat, owns}
 use Rattle.walk.proofs.Locals.{types_of, declared, local_at, Contents, first, later, content, held}
 use Rattle.walk.proofs.Locals.{takes, fit, arguments, Each}
 use Rattle.walk.proofs.Cells.{At, Room, Dies, cell, cells, roomy, locals, local-at}
-use Rattle.walk.proofs.Spelled.{Spelleds, spelt, values, values-wt, spelled_out}
+use Rattle.walk.proofs.Spelled.{Spelleds, spelt, values, values_wt, spelled_out}
 
 module _ {M : Type 1} {𝓤 : Ura M} (𝓛 : Logic 𝓤) where
   open 𝓛 use {H}
@@ -95,7 +95,7 @@ module _ {M : Type 1} {𝓤 : Ura M} (𝓛 : Logic 𝓤) where
   begins C Λ f Ts ls a P K ok k =
       let All : SProp 𝓤 = (P ∗ sem 𝓛 (owns Ts a (spelt Ts ls a))) ∗ emp 𝓤 in
       spelled_out 𝓛 Ts ls a P (λ vs. WpFn 𝓤 H C Λ f vs K) (λ are.
-      starts C Λ f (values Ts ls a) K All ok (values-wt 𝓛 Ts ls a are) k)
+      starts C Λ f (values Ts ls a) K All ok (values_wt 𝓛 Ts ls a are) k)
 
   freed : (E : Env 𝓤 H) (cs : Contents) (K : SProp 𝓤) → Cells E cs ∗ K ⊢ release 𝓤 H E K
   freed [] cs K = snd∗ 𝓤 (emp 𝓤) K

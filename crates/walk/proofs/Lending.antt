@@ -22,8 +22,8 @@ use types.Run.{stop, hop, fld, from, load, addr, and_then, no_more, assigns}
 use types.Part.{agg, sub, look_in}
 use denote.Slice.{slice_ty, slice_val}
 use Rattle.walk.proofs.Locals.{types_of, local_at, type_at, type-at, Contents, content, put, differ}
-use Rattle.walk.proofs.Locals.{content-put, content-other, takes, Each}
-use Rattle.walk.proofs.Cells.{locals, local-at, sets, typed-in}
+use Rattle.walk.proofs.Locals.{content_put, content_other, takes, Each}
+use Rattle.walk.proofs.Cells.{locals, local-at, sets, typed_in}
 
 pub record Lend : Type 0 where
   pub source : ℕ  -- the local of the slice that was passed
@@ -63,9 +63,9 @@ relends (l ∷ ls) rest =
 abbrev lent : Lend → Slice → Contents → Contents
 lent l x cs = put l.slice (value_of x) (put l.address (address_of x) cs)
 
-abbrev pub all-lent : (ls : List Lend) → Slices ls → Contents → Contents
-all-lent [] xs cs = cs
-all-lent (l ∷ ls) xs cs = all-lent ls xs.1 (lent l xs.0 cs)
+abbrev pub all_lent : (ls : List Lend) → Slices ls → Contents → Contents
+all_lent [] xs cs = cs
+all_lent (l ∷ ls) xs cs = all_lent ls xs.1 (lent l xs.0 cs)
 
 -- ---- the hypotheses
 abbrev Known : Type 0
@@ -89,22 +89,22 @@ lendable (l ∷ ls) xs τs =
 -- ---- the rule
 module _ {M : Type 1} {𝓤 : Ura M} {𝓛 : Logic 𝓤} {K : Type 0} {Γ : List (Item 𝓤)}
     {C : Calls 𝓤 𝓛.H} {Λ : Loops 𝓤 𝓛.H} {q : Post 𝓤 𝓛.H} (E : Env 𝓤 𝓛.H) where
-  relent-one : K → {rest : Body} (l : Lend) (x : Slice) (cs : Contents) → Each (lendable (l ∷ []) (x, tt) (types_of E))
+  relent_one : K → {rest : Body} (l : Lend) (x : Slice) (cs : Contents) → Each (lendable (l ∷ []) (x, tt) (types_of E))
       → (local_at E l.source).0 ≡ type_of l → content l.source cs ≡ some (value_of x)
       → Step K 𝓛 (locals 𝓛 E (lent l x cs) ∷ Γ) (runs C Λ E rest q)
       (locals 𝓛 E cs ∷ Γ) (runs C Λ E (relends (l ∷ []) rest) q)
-  relent-one t l x cs ok type e =
+  relent_one t l x cs ok type e =
       let p : Val = address_of x in
       let v : Val = value_of x in
       let ds : Contents = put l.address p cs in
-      let e' : content l.source ds ≡ some v = content-other l.source l.address p cs ok.1.1.1.0 ∙ e in
+      let e' : content l.source ds ≡ some v = content_other l.source l.address p cs ok.1.1.1.0 ∙ e in
       let was = local-at t E l.source (type_of l) v cs type ok.0 e in
       let is = local-at t E l.source (type_of l) v ds type ok.0 e' in
       let to = local-at t E l.address (local_at E l.address).0 p ds refl ok.1.0
-      (content-put l.address p cs) in
+      (content_put l.address p cs) in
       let field_at : (k : ℕ) → field_of (local_at E l.source).0 k ≡ field_of (type_of l) k =
       λ k. ap (λ (τ : Ty). field_of τ k) type in
-      step (λ s. typed-in t was (λ wt.
+      step (λ s. typed_in t was (λ wt.
       assigns t (addr t (from t (fld t (field_at 0) (hop t (look_in t 0 (sub t 0 refl was)) (stop t)))))
       (from t (stop t)) (sets t E l.address p cs ok.1.0 tt) $
       assigns t (agg t (and_then t (load t (from t (stop t)) (look_in t 0 to))
@@ -113,11 +113,11 @@ module _ {M : Type 1} {𝓤 : Ura M} {𝓛 : Logic 𝓤} {K : Type 0} {Γ : List
 
   pub relent : K → {rest : Body} (ls : List Lend) (xs : Slices ls) (cs : Contents) → Each (lendable ls xs (types_of E))
       → sources ls xs (types_of E) cs ≡ wanted ls xs
-      → Step K 𝓛 (locals 𝓛 E (all-lent ls xs cs) ∷ Γ) (runs C Λ E rest q)
+      → Step K 𝓛 (locals 𝓛 E (all_lent ls xs cs) ∷ Γ) (runs C Λ E rest q)
       (locals 𝓛 E cs ∷ Γ) (runs C Λ E (relends ls rest) q)
   relent t [] xs cs ok e = step (λ s. s)
   relent t (l ∷ ls) xs cs ok e =
       let first : Known → Ty × Option Val = λ ys. get_or ys 0 (ty_unit, none) in
-      step (λ s. relent-one t l xs.0 cs (ok.0, (ok.1.0, (ok.1.1.0, (ok.1.1.1.0, tt))))
+      step (λ s. relent_one t l xs.0 cs (ok.0, (ok.1.0, (ok.1.1.0, (ok.1.1.1.0, tt))))
       (type-at E l.source ∙ ap (λ (ys : Known). (first ys).0) e) (ap (λ (ys : Known). (first ys).1) e) $
       relent t ls xs.1 (lent l xs.0 cs) ok.1.1.1.1 (ap (drop 1) e) $ s)

@@ -1,4 +1,4 @@
--- The lemmas are `mut_entry` (`Mutable`) and `ref-entry` (`Shared`); what they suppose is said at the head of `Entry`.
+-- The lemmas are `mut_entry` (`Mutable`) and `ref_entry` (`Shared`); what they suppose is said at the head of `Entry`.
 pub mod Locals
 pub mod Cells
 pub mod Parts

@@ -64,9 +64,9 @@ abbrev pub contents : List ℕ → Contents → Contents
 contents [] cs = []
 contents (i ∷ is) cs = content i cs ∷ contents is cs
 
-pub content-put : (i : ℕ) (v : Val) (cs : Contents) → content i (put i v cs) ≡ some v
-content-put zero v cs = refl
-content-put (suc i) v cs = content-put i v (later cs)
+pub content_put : (i : ℕ) (v : Val) (cs : Contents) → content i (put i v cs) ≡ some v
+content_put zero v cs = refl
+content_put (suc i) v cs = content_put i v (later cs)
 
 abbrev pub differ : ℕ → ℕ → Bool
 differ zero zero = false
@@ -74,11 +74,11 @@ differ zero (suc j) = true
 differ (suc i) zero = true
 differ (suc i) (suc j) = differ i j
 
-pub content-other : (i j : ℕ) (v : Val) (cs : Contents) → T (differ i j) → content i (put j v cs) ≡ content i cs
-content-other zero zero v cs d = absurd d
-content-other zero (suc j) v cs d = refl
-content-other (suc i) zero v cs d = refl
-content-other (suc i) (suc j) v cs d = content-other i j v (later cs) d
+pub content_other : (i j : ℕ) (v : Val) (cs : Contents) → T (differ i j) → content i (put j v cs) ≡ content i cs
+content_other zero zero v cs d = absurd d
+content_other zero (suc j) v cs d = refl
+content_other (suc i) zero v cs d = refl
+content_other (suc i) (suc j) v cs d = content_other i j v (later cs) d
 
 -- ---- tests
 abbrev pub takes : ℕ → List Ty → Val → Bool

@@ -28,18 +28,18 @@ use denote.Steps.{owned}
 use denote.Struct.Declared.{Declared, row, shape}
 use denote.Struct.Struct.{layout}
 use denote.Struct.Laws as LL
-use Rattle.walk.proofs.Locals.{types_of, local_at, type_at, type-at, Contents, first, put, content-put, content-other}
+use Rattle.walk.proofs.Locals.{types_of, local_at, type_at, type-at, Contents, first, put, content_put, content_other}
 use Rattle.walk.proofs.Locals.{takes, conj, apart}
 use Rattle.walk.proofs.Cells.{sets}
-use Rattle.walk.proofs.Parts.{part, leads, the-part, part_of}
-use Rattle.walk.proofs.Spelled.{Spelled, struct, spelled-fits}
+use Rattle.walk.proofs.Parts.{part, leads, the_part, part_of}
+use Rattle.walk.proofs.Spelled.{Spelled, struct, spelled_fits}
 use Rattle.walk.proofs.Stores.{Store, begun, storing, Alike, Within, stored, tests, stores}
 use Rattle.walk.proofs.Frame.{ends}
 use Rattle.walk.proofs.Parameters.{Param, free_from}
 use Rattle.walk.proofs.Form.{Record, Form, at_call}
 use Rattle.walk.proofs.Contract.{Terms, gives, Keeps, args, entry as entry_of}
 use Rattle.walk.proofs.Borrowed.{opened, shut}
-use Rattle.walk.proofs.Call.{there, to-call, over-call}
+use Rattle.walk.proofs.Call.{there, to_call, over_call}
 use Rattle.walk.proofs.Entry.{Walks, Lemma, entry}
 
 pub record Answer (T : Record) : Type 2 where
@@ -56,13 +56,13 @@ pub record Answer (T : Record) : Type 2 where
   pub from : List ℕ
   pub alike : Alike (layout (shape T.X)) (layout (shape Y)) stores
   -- the machine values that they leave and return are those of the record and the result
-  pub to-val : (h : T.X.D) (d : Y.D)
+  pub to_val : (h : T.X.D) (d : Y.D)
       → stored (LL.val Y laws d) stores (LL.val T.X T.laws h) ≡ LL.val T.X T.laws (to h d)
-  pub gives-val : (d : Y.D) → part from (LL.val Y laws d) ≡ spelled.val (gives d)
+  pub gives_val : (d : Y.D) → part from (LL.val Y laws d) ≡ spelled.val (gives d)
   -- and are related to them, where the record's and the answer's are
   pub to_is : (h : T.X.D) (d : Y.D) → Is (row T.X) h (LL.vals T.X T.laws h) → Is (row Y) d (LL.vals Y laws d)
       → Is (row T.X) (to h d) (LL.vals T.X T.laws (to h d))
-  pub gives-is : (d : Y.D) (vs : List Val) → Is (row Y) d vs → Is R (gives d) (spelled.val (gives d) ∷ [])
+  pub gives_is : (d : Y.D) (vs : List Val) → Is (row Y) d vs → Is R (gives d) (spelled.val (gives d) ∷ [])
 
 -- the first local that is free: in it each `indexed` scales its index
 abbrev scaled : List Param → ℕ
@@ -98,7 +98,7 @@ mutable {T} An ps =
       answer = answer;
       copied = suc answer;
       rest = storing x y answer (scaled ps) (begun (scaled ps) An.stores) An.stores
-          (seq (assign (place 0 []) (rv_opd (the-part answer An.from))) return);
+          (seq (assign (place 0 []) (rv_opd (the_part answer An.from))) return);
       typed = λ τs. (type_at τs answer ≡ y) × ((b o : ℕ) (h : T.X.D) (d : An.Y.D)
           → let v = LL.val An.Y An.laws d in
           T' (conj (conj (leads An.from y v)
@@ -124,21 +124,21 @@ module _ {M : Type 1} {𝓤 : Ura M} (𝓛 : Logic 𝓤) {T : Record} (An : Answ
       let m : ℕ = begun k An.stores in
       let called : Contents = at_call F z in
       let type : (local_at E F.answer).0 ≡ Y = type-at E F.answer ∙ ok.rest.0 in
-      opened T x.now b o ! tt (λ was. let good = spelled-fits 𝓛 (struct T.X T.laws) x.now was in
+      opened T x.now b o ! tt (λ was. let good = spelled_fits 𝓛 (struct T.X T.laws) x.now was in
       move ! (7 ∷ 0 ∷ []) $
       -- [the locals; the record's cell; what it owns; the open borrow; its value, twice; the tokens; the others]
-      to-call 𝓛 C Λ E ok z good $ move ! (6 ∷ 2 ∷ 7 ∷ []) $
-      over-call 𝓛 C Λ E ok z kept Ensures fm core known qs.1 good
+      to_call 𝓛 C Λ E ok z good $ move ! (6 ∷ 2 ∷ 7 ∷ []) $
+      over_call 𝓛 C Λ E ok z kept Ensures fm core known qs.1 good
       (λ d ws. Te.Ensures κs a (An.gives d) (An.to x.now d, ws.1)) (follows κs a) (λ d ws within is.
       let v : Val = LL.val An.Y An.laws d in
       let h : T.X.D = An.to x.now d in
       let r : Val = An.spelled.val (An.gives d) in
-      let fits-d = spelled-fits 𝓛 (F.answers κs.1) d is in
+      let fits-d = spelled_fits 𝓛 (F.answers κs.1) d is in
       let takes-d : T' (takes F.answer (types_of E) v) = ok.answer κs.1 d fits-d.0 in
-      let points = content-other 1 F.answer v called tt ∙ ap first (ok.sent z) in
+      let points = content_other 1 F.answer v called tt ∙ ap first (ok.sent z) in
       let is-h : Is (row T.X) h (LL.vals T.X T.laws h) = An.to_is x.now d was is in
-      let is-r : Is An.R (An.gives d) (r ∷ []) = An.gives-is d (v ∷ []) is in
-      let fits-r = spelled-fits 𝓛 An.spelled (An.gives d) is-r in
+      let is-r : Is An.R (An.gives d) (r ∷ []) = An.gives_is d (v ∷ []) is in
+      let fits-r = spelled_fits 𝓛 An.spelled (An.gives d) is-r in
       let takes-r : T' (takes 0 (types_of E) r) = ok.result κs.1 (An.gives d) fits-r.0 in
       let able = apart (conj (leads An.from Y v)
       ∷ tests v X Y F.answer k (types_of E) b o m An.stores w) (ok.rest.1 b o x.now d) in
@@ -146,12 +146,12 @@ module _ {M : Type 1} {𝓤 : Ura M} (𝓛 : Logic 𝓤) {T : Record} (An : Answ
       -- [the locals; the record's cell; what the answer owns; the tokens; the last values; what is ensured; the borrow]
       move ! (0 ∷ 5 ∷ []) $
       stores 𝓛 C Λ E X Y F.answer k v b o type takes-d (there 𝓛 C Λ E ok z).0 An.stores m w
-      (put F.answer v called) An.alike within able.1 (content-put F.answer v called, points) (λ cs has.
-      assigns ! (of_opd ! (part_of E ! F.answer An.from Y v cs type given takes-d has (An.gives-val d)))
+      (put F.answer v called) An.alike within able.1 (content_put F.answer v called, points) (λ cs has.
+      assigns ! (of_opd ! (part_of E ! F.answer An.from Y v cs type given takes-d has (An.gives_val d)))
       (from ! (stop !)) (sets ! E 0 r cs takes-r fits-r.1) $
-      rewrite ! 1 (λ (u : Val). ‵ (fat full_share (raw_ty X) b o u)) (An.to-val x.now d) refl $
+      rewrite ! 1 (λ (u : Val). ‵ (fat full_share (raw_ty X) b o u)) (An.to_val x.now d) refl $
       move ! (1 ∷ 6 ∷ 7 ∷ 8 ∷ []) $ shut T h b o ! tt is-h $ move ! (3 ∷ []) $
-      ends ! E r (put 0 r cs) takes-r (content-put 0 r cs) (
+      ends ! E r (put 0 r cs) takes-r (content_put 0 r cs) (
       -- [the record's value; the borrow; its token; what the answer owns; the tokens; the last values; what is ensured]
       use1 𝓛 (‵ (fres x.ghost_name ((row T.X).coded.code h))) (𝓛.names.obs-res x.ghost_name ((row T.X).coded.code h)) $
       fjoin ! $

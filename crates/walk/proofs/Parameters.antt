@@ -17,7 +17,7 @@ use denote.Memory.{lone, pointee}
 use denote.Signature.{Slot, plain, types_at}
 use denote.Slice.{MutSlice, ShrSlice}
 use Rattle.walk.proofs.Lending.{Lend, Slices}
-use Rattle.walk.proofs.Spelled.{Spelled, Spelleds, mut_slice, shared-slice}
+use Rattle.walk.proofs.Spelled.{Spelled, Spelleds, mut_slice, shared_slice}
 
 pub data Param : Type 2 where
   value : (R : RattleType) → Spelled R → Param
@@ -43,7 +43,7 @@ abbrev laws_from : (n j : ℕ) (ps : List Param) (at : Lfts n → Lfts (count ps
     → Spelleds (types_at (slots_from n j ps at) κs)
 laws_from n j [] at κs = tt
 laws_from n j (value R l ∷ ps) at κs = (l, laws_from n j ps at κs)
-laws_from n j (shared R ∷ ps) at κs = (shared-slice (named j) (at κs).0 R, laws_from n (suc j) ps (λ κs. (at κs).1) κs)
+laws_from n j (shared R ∷ ps) at κs = (shared_slice (named j) (at κs).0 R, laws_from n (suc j) ps (λ κs. (at κs).1) κs)
 laws_from n j (lent R ∷ ps) at κs = (mut_slice (named j) (at κs).0 R, laws_from n (suc j) ps (λ κs. (at κs).1) κs)
 
 -- k is the next free local, and p the parameter's own

@@ -2,9 +2,9 @@
 --     part ks v        the part of v at the fields ks.        changed ks v u       v with u there
 --     type_to, offset_to     the type of that part, and where it lies, from the whole's
 --     leads ks τ v     the tests that the fields ks lead to a part of v, a value of τ
---     along, at-index  the cell of that part, and of an array's element, within the cell of the whole
---     behind-raw       the cell of a type within the cell of its raw form, as what lies behind a reference is
---     the-part, part_of    such a part of a local as a statement reads it.        at_part      and the place of one
+--     along, at_index  the cell of that part, and of an array's element, within the cell of the whole
+--     behind_raw       the cell of a type within the cell of its raw form, as what lies behind a reference is
+--     the_part, part_of    such a part of a local as a statement reads it.        at_part      and the place of one
 -- Assumes `Logic`.
 use mathlib.Core.Path.{◌≡◌, refl, sym, ap, subst, ◌∙◌}
 use Prim.Native.Nat.{ℕ, zero, suc, ◌+◌, ◌*◌, ◌<◌}
@@ -33,7 +33,7 @@ use types.Run.{Walks, Opd, stop, fld, from, load, well_typed}
 use types.Part.{Part, sub, look_in}
 use denote.Index.{place as placed, place_is}
 use Rattle.walk.proofs.Locals.{types_of, local_at, Contents, content, takes, Each}
-use Rattle.walk.proofs.Cells.{Way, back, later-out, locals, local-at}
+use Rattle.walk.proofs.Cells.{Way, back, later_out, locals, local-at}
 
 -- ---- values
 abbrev pub fields_of : Val → Vals
@@ -105,8 +105,8 @@ abbrev pub steps : List ℕ → List Hop
 steps [] = []
 steps (k ∷ ks) = field k ∷ steps ks
 
-abbrev pub the-part : ℕ → List ℕ → Operand
-the-part i ks = copy (place i (steps ks))
+abbrev pub the_part : ℕ → List ℕ → Operand
+the_part i ks = copy (place i (steps ks))
 
 -- ---- an array's elements as values
 of-list : (vs : Vals) → of_list (to_list vs) ≡ vs
@@ -114,10 +114,10 @@ unfolding to_list
 of-list vnil = refl
 of-list (vcons v vs) = ap (vcons v) (of-list vs)
 
-of-set : (us : List Val) (i : ℕ) (u : Val) → of_list (set us i u) ≡ set_v (of_list us) i u
-of-set [] i u = refl
-of-set (v ∷ us) zero u = refl
-of-set (v ∷ us) (suc i) u = ap (vcons v) (of-set us i u)
+of_set : (us : List Val) (i : ℕ) (u : Val) → of_list (set us i u) ≡ set_v (of_list us) i u
+of_set [] i u = refl
+of_set (v ∷ us) zero u = refl
+of_set (v ∷ us) (suc i) u = ap (vcons v) (of_set us i u)
 
 counted : (τ : Ty) (n : ℕ) (us : List Val) → T (all_n (has_ty τ) n (of_list us)) → length us ≡ n
 counted τ zero [] h = refl
@@ -143,7 +143,7 @@ module _ {M : Type 1} {𝓤 : Ura M} (𝓛 : Logic 𝓤) (q : Share) (τ : Ty) (
       each ! (λ (u : Val). wand 𝓤 (At o u) (sep 𝓤 (At o u) Rest)) (λ u. assume ! (raw (At o u)) $ done !)
   picked (v ∷ us) (suc i) o l =
       let p : ℕ = placed (size τ) (o + size τ) i in
-      later-out 𝓛 (At o v) (At p (get_v (of_list us) i)) (elems 𝓤 H q τ b (o + size τ) us) (At p)
+      later_out 𝓛 (At o v) (At p (get_v (of_list us) i)) (elems 𝓤 H q τ b (o + size τ) us) (At p)
       (λ u. elems 𝓤 H q τ b (o + size τ) (set us i u)) (picked us i (o + size τ) (le_of_suc-le-suc l))
 
   module _ (n o i : ℕ) where
@@ -164,16 +164,16 @@ module _ {M : Type 1} {𝓤 : Ura M} (𝓛 : Logic 𝓤) (q : Share) (τ : Ty) (
         (picked us i o (subst (λ (m : ℕ). i < m) (sym e) l)) $ split ! $ frame ! $
         each ! (λ (u : Val). wand 𝓤 (Element u) (Array (set_v (of_list us) i u))) (λ u.
         assume ! (raw (Element u)) $ use2 𝓛 (raw (Row (set us i u))) (back 𝓛 Element (λ u. Row (set us i u)) u) $
-        by ! (subst (λ (vs : Vals). ent 𝓤 (Row (set us i u)) (Array vs)) (of-set us i u)
+        by ! (subst (λ (vs : Vals). ent 𝓤 (Row (set us i u)) (Array vs)) (of_set us i u)
         (subst (λ (m : ℕ). ent 𝓤 (Row (set us i u)) (H.at q (ty_array τ m) b o (vstruct (of_list (set us i u)))))
         (length-set us i u ∙ e) (𝓛.laws.elems_at q τ b o (set us i u))))))
 
 module _ {M : Type 1} {𝓤 : Ura M} {𝓛 : Logic 𝓤} {K : Type 0} where
   open 𝓛 use {H}
 
-  pub behind-raw : K → {q : Share} {τ : Ty} {b o : ℕ} {v : Val}
+  pub behind_raw : K → {q : Share} {τ : Ty} {b o : ℕ} {v : Val}
       → Part K 𝓛 (‵ (fat q (raw_ty τ) b o v)) q τ b o v (λ u. ‵ (fat q (raw_ty τ) b o u))
-  behind-raw t {q} {τ} {b} {o} {v} = record {
+  behind_raw t {q} {τ} {b} {o} {v} = record {
     out = qed 𝓛 (‵ (fat q (raw_ty τ) b o v) ∷ []) ∵ use1 𝓛 (‵ (fat q τ b o v)) (𝓛.laws.raw_at q τ b o v) $ frame ! $
         each ! (λ (u : Val). wand 𝓤 (H.at q τ b o u) (H.at q (raw_ty τ) b o u)) (λ u. assume ! (‵ (fat q τ b o u)) $
         by ! (𝓛.laws.at_raw q τ b o u));
@@ -228,10 +228,10 @@ module _ {M : Type 1} {𝓤 : Ura M} {𝓛 : Logic 𝓤} {K : Type 0} where
         along t ks (the_field τ k).0 (get_v (fields_of v) k) ok.1.1
         (into t τ (fields_of v) k ok.0 (as_struct t v ok.1.0 p))
 
-    pub at-index : K → {τ : Ty} {n o : ℕ} (v : Val) {F : Val → Item 𝓤} (j : ℕ) → T (is_struct v) → j < n
+    pub at_index : K → {τ : Ty} {n o : ℕ} (v : Val) {F : Val → Item 𝓤} (j : ℕ) → T (is_struct v) → j < n
         → Part K 𝓛 i q (ty_array τ n) b o v F
         → Part K 𝓛 i q τ b (j * size τ + o) (get_v (fields_of v) j) (λ u. F (vstruct (set_v (fields_of v) j u)))
-    at-index t {τ} {n} {o} v {F} j s l p =
+    at_index t {τ} {n} {o} v {F} j s l p =
         let vs : Vals = fields_of v in
         let Back : Vals → SProp 𝓤 = λ us. H.at q (ty_array τ n) b o (vstruct us) in
         let Law : Vals → Type 1 = λ us. ent 𝓤 (Back us) (sep 𝓤 (H.at q τ b (placed (size τ) o j) (get_v us j))
@@ -251,10 +251,10 @@ module _ {M : Type 1} {𝓤 : Ura M} {𝓛 : Logic 𝓤} {K : Type 0} {Γ : List
     (E : Env 𝓤 𝓛.H) where
   pub part_of : K → (i : ℕ) (ks : List ℕ) (τ : Ty) (v : Val) {u : Val} (cs : Contents) → (local_at E i).0 ≡ τ
       → Each (leads ks τ v) → T (takes i (types_of E) v) → content i cs ≡ some v → part ks v ≡ u
-      → Opd K 𝓛 (locals 𝓛 E cs ∷ Γ) E (the-part i ks) u
+      → Opd K 𝓛 (locals 𝓛 E cs ∷ Γ) E (the_part i ks) u
   part_of t i ks τ v cs type ok takes e is =
       let b : ℕ = (local_at E i).1 in
-      subst (λ (u : Val). Opd K 𝓛 (locals 𝓛 E cs ∷ Γ) E (the-part i ks) u) is
+      subst (λ (u : Val). Opd K 𝓛 (locals 𝓛 E cs ∷ Γ) E (the_part i ks) u) is
       (load t (from t (subst (λ (σ : Ty). Walks K 𝓛 (locals 𝓛 E cs ∷ Γ) E (σ, b, zero) (steps ks)
       (type_to ks τ, b, offset_to ks τ zero)) (sym type) (at_part t ks τ v ok)))
       (look_in t 0 (along t ks τ v ok (local-at t E i τ v cs type takes e))))

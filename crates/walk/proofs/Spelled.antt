@@ -1,8 +1,8 @@
 -- Types of one machine value, which is a function of what the value denotes.
---     Spelled R        R is such a type.        struct, uint, mut_slice, shared-slice      a struct, .., a `&[R]`
+--     Spelled R        R is such a type.        struct, uint, mut_slice, shared_slice      a struct, .., a `&[R]`
 --     Spelleds Ts      a list of such types, as a function's parameters are
 --     spelt, values    the machine values of arguments: a list for each, and all in a row
---     spelled-fits     the machine value is one of the type
+--     spelled_fits     the machine value is one of the type
 --     spelled_out      at a function's entry the arguments' machine values are those
 -- Assumes `Logic` where there is a model.
 use mathlib.Core.Path.{◌≡◌, sym, subst}
@@ -50,8 +50,8 @@ module _ (ℓ : Lifetime) (κ : Lft) (R : RattleType) where
     lawful = λ 𝓛. mut_slice_Lawful 𝓛 ℓ κ R;
   }
 
-  abbrev pub shared-slice : Spelled (ShrSlice ℓ κ R)
-  shared-slice = record {
+  abbrev pub shared_slice : Spelled (ShrSlice ℓ κ R)
+  shared_slice = record {
     val = slice;
     tells = shr_slice_Tells ℓ κ R;
     lawful = λ 𝓛. shr_slice_Lawful 𝓛 ℓ κ R;
@@ -80,20 +80,20 @@ values Ts ls a = flat Ts (spelt Ts ls a)
 abbrev pub Fits : Ty → Val → Type 0
 Fits τ v = T (has_ty τ v) × WT v
 
-typed-fits : (τs : List Ty) (v : Val) → Typed τs (v ∷ []) → Fits (lone τs) v
-typed-fits [] v t = absurd t
-typed-fits (τ ∷ []) v t = t.0
-typed-fits (τ ∷ σ ∷ τs) v t = absurd t.1
+typed_fits : (τs : List Ty) (v : Val) → Typed τs (v ∷ []) → Fits (lone τs) v
+typed_fits [] v t = absurd t
+typed_fits (τ ∷ []) v t = t.0
+typed_fits (τ ∷ σ ∷ τs) v t = absurd t.1
 
 module _ {M : Type 1} {𝓤 : Ura M} (𝓛 : Logic 𝓤) where
-  pub spelled-fits : {R : RattleType} (l : Spelled R) (x : R.Denot) → Is R x (l.val x ∷ []) → Fits (lone R.mir) (l.val x)
-  spelled-fits {R} l x is = typed-fits R.mir (l.val x) ((l.lawful 𝓛).typed x (l.val x ∷ []) is)
+  pub spelled_fits : {R : RattleType} (l : Spelled R) (x : R.Denot) → Is R x (l.val x ∷ []) → Fits (lone R.mir) (l.val x)
+  spelled_fits {R} l x is = typed_fits R.mir (l.val x) ((l.lawful 𝓛).typed x (l.val x ∷ []) is)
 
   -- each number among the machine values is one of its width
-  pub values-wt : (Ts : List RattleType) (ls : Spelleds Ts) (a : Denots Ts) → Are Ts (Ises Ts) a (spelt Ts ls a)
+  pub values_wt : (Ts : List RattleType) (ls : Spelleds Ts) (a : Denots Ts) → Are Ts (Ises Ts) a (spelt Ts ls a)
       → WTs (of_list (values Ts ls a))
-  values-wt [] ls a are = tt
-  values-wt (T ∷ Ts) ls a are = ((spelled-fits ls.0 a.0 are.0).1, values-wt Ts ls.1 a.1 are.1)
+  values_wt [] ls a are = tt
+  values_wt (T ∷ Ts) ls a are = ((spelled_fits ls.0 a.0 are.0).1, values_wt Ts ls.1 a.1 are.1)
 
   -- P are the tokens that a function is passed beside what its parameters' types own
   pub spelled_out : (Ts : List RattleType) (ls : Spelleds Ts) (a : Denots Ts) (P : SProp 𝓤) (Q : List Val → SProp 𝓤)

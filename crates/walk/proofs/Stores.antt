@@ -33,11 +33,11 @@ use types.Logic.{Logic}
 use types.Kit.{Item, ‵, Post, runs, Sq, Go, !, ◌$◌}
 use types.Run.{stop, from as of-local, lit, bin, addr, of_opd, assigns}
 use types.Part.{Part, store_in}
-use Rattle.walk.proofs.Locals.{types_of, local_at, Contents, content, put, content-put, differ, content-other}
+use Rattle.walk.proofs.Locals.{types_of, local_at, Contents, content, put, content_put, differ, content_other}
 use Rattle.walk.proofs.Locals.{takes, conj, Each, apart}
-use Rattle.walk.proofs.Cells.{locals, local-at, sets, typed-in, behind}
-use Rattle.walk.proofs.Parts.{fields_of, is_struct, part, changed, type_to, offset_to, leads, steps, the-part}
-use Rattle.walk.proofs.Parts.{behind-raw, along, at-index, at_part, part_of}
+use Rattle.walk.proofs.Cells.{locals, local-at, sets, typed_in, behind}
+use Rattle.walk.proofs.Parts.{fields_of, is_struct, part, changed, type_to, offset_to, leads, steps, the_part}
+use Rattle.walk.proofs.Parts.{behind_raw, along, at_index, at_part, part_of}
 use Rattle.walk.proofs.Spelled.{Fits}
 
 pub data Store : Type 0 where
@@ -47,28 +47,28 @@ pub data Store : Type 0 where
   moved_at : (to : List ℕ) (n : ℕ) (index from : List ℕ) → Store
 
 -- ---- the locals after m, by suc, which computes at any m
-abbrev past-two : ℕ → ℕ
-past-two m = suc (suc m)
+abbrev past_two : ℕ → ℕ
+past_two m = suc (suc m)
 
-abbrev past-three : ℕ → ℕ
-past-three m = suc (past-two m)
+abbrev past_three : ℕ → ℕ
+past_three m = suc (past_two m)
 
-abbrev past-four : ℕ → ℕ
-past-four m = suc (past-three m)
+abbrev past_four : ℕ → ℕ
+past_four m = suc (past_three m)
 
-abbrev past-five : ℕ → ℕ
-past-five m = suc (past-four m)
+abbrev past_five : ℕ → ℕ
+past_five m = suc (past_four m)
 
 -- ---- a local of the type σ
-abbrev typed-as : ℕ → List Ty → Ty → Bool
-typed-as i [] σ = false
-typed-as zero (τ ∷ τs) σ = same_ty τ σ
-typed-as (suc i) (τ ∷ τs) σ = typed-as i τs σ
+abbrev typed_as : ℕ → List Ty → Ty → Bool
+typed_as i [] σ = false
+typed_as zero (τ ∷ τs) σ = same_ty τ σ
+typed_as (suc i) (τ ∷ τs) σ = typed_as i τs σ
 
-takes-as : (i : ℕ) (τs : List Ty) (σ : Ty) (v : Val) → T (typed-as i τs σ) → T (has_ty σ v) → T (takes i τs v)
-takes-as i [] σ v t h = absurd t
-takes-as zero (τ ∷ τs) σ v t h = subst (λ (ρ : Ty). T (has_ty ρ v)) (sym (same_ty→eq τ σ t)) h
-takes-as (suc i) (τ ∷ τs) σ v t h = takes-as i τs σ v t h
+takes_as : (i : ℕ) (τs : List Ty) (σ : Ty) (v : Val) → T (typed_as i τs σ) → T (has_ty σ v) → T (takes i τs v)
+takes_as i [] σ v t h = absurd t
+takes_as zero (τ ∷ τs) σ v t h = subst (λ (ρ : Ty). T (has_ty ρ v)) (sym (same_ty→eq τ σ t)) h
+takes_as (suc i) (τ ∷ τs) σ v t h = takes_as i τs σ v t h
 
 -- ---- indices
 abbrev pub number : Val → ℕ
@@ -95,27 +95,27 @@ module _ (X Y : Ty) where
   -- where an element of s bytes lies goes into the local after m
   abbrev addressing : (answer k m : ℕ) (to index : List ℕ) → ℕ → Body → Body
   addressing answer k m to index s rest =
-      seq (assign (place k []) (op2 (mul unsigned) (the-part answer index) (int w64 s)))
+      seq (assign (place k []) (op2 (mul unsigned) (the_part answer index) (int w64 s)))
       (seq (assign (place m []) (addr_of (place 1 (deref X ∷ steps to))))
       (seq (assign (place (suc m) []) (op2 offset (copy (place m [])) (copy (place k [])))) rest))
 
   abbrev pub storing : (answer k m : ℕ) → List Store → Body → Body
   storing answer k m [] rest = rest
   storing answer k m (plain to from ∷ ss) rest =
-      seq (assign (place 1 (deref X ∷ steps to)) (rv_opd (the-part answer from))) (storing answer k m ss rest)
+      seq (assign (place 1 (deref X ∷ steps to)) (rv_opd (the_part answer from))) (storing answer k m ss rest)
   storing answer k m (indexed to n index from ∷ ss) rest =
       addressing answer k m to index (size (type_to from Y))
-      (seq (assign (place (suc m) (deref (type_to from Y) ∷ [])) (rv_opd (the-part answer from)))
+      (seq (assign (place (suc m) (deref (type_to from Y) ∷ [])) (rv_opd (the_part answer from)))
       (storing answer k (suc (suc m)) ss rest))
   storing answer k m (moved to from ∷ ss) rest =
-      seq (assign (place m []) (rv_opd (the-part answer from)))
-      (seq (assign (place 1 (deref X ∷ steps to)) (rv_opd (the-part m []))) (storing answer k (suc m) ss rest))
+      seq (assign (place m []) (rv_opd (the_part answer from)))
+      (seq (assign (place 1 (deref X ∷ steps to)) (rv_opd (the_part m []))) (storing answer k (suc m) ss rest))
   storing answer k m (moved_at to n index from ∷ ss) rest =
-      seq (assign (place m []) (rv_opd (the-part answer from)))
-      (seq (assign (place (suc m) []) (rv_opd (the-part answer index)))
-      (addressing (suc m) (past-two m) (past-three m) to [] (size (type_to from Y))
-      (seq (assign (place (past-four m) (deref (type_to from Y) ∷ [])) (rv_opd (the-part m [])))
-      (storing answer k (past-five m) ss rest))))
+      seq (assign (place m []) (rv_opd (the_part answer from)))
+      (seq (assign (place (suc m) []) (rv_opd (the_part answer index)))
+      (addressing (suc m) (past_two m) (past_three m) to [] (size (type_to from Y))
+      (seq (assign (place (past_four m) (deref (type_to from Y) ∷ [])) (rv_opd (the_part m [])))
+      (storing answer k (past_five m) ss rest))))
 
   abbrev pub Alike : List Store → Type 0
   Alike [] = Unit {0}
@@ -169,8 +169,8 @@ module _ (v : Val) where
     -- what is stored, of the type σ, goes into local m, and its index u into the next; the locals that are read keep theirs
     abbrev lodged : ℕ → Ty → Val → List Bool
     lodged m σ u =
-        typed-as m τs σ ∷ takes (suc m) τs u ∷ differ answer m ∷ differ answer (suc m) ∷ differ 1 m ∷ differ 1 (suc m)
-        ∷ differ m (suc m) ∷ conj (spared (past-two m) (past-three m) answer) ∷ conj (spared (past-two m) (past-three m) m) ∷ []
+        typed_as m τs σ ∷ takes (suc m) τs u ∷ differ answer m ∷ differ answer (suc m) ∷ differ 1 m ∷ differ 1 (suc m)
+        ∷ differ m (suc m) ∷ conj (spared (past_two m) (past_three m) answer) ∷ conj (spared (past_two m) (past_three m) m) ∷ []
 
     abbrev pub tests : ℕ → List Store → Val → List Bool
     tests m [] w = []
@@ -184,15 +184,15 @@ module _ (v : Val) where
         ∷ tests (suc (suc m)) ss (after (indexed to n index from) w)
     tests m (moved to from ∷ ss) w =
         conj (leads to X w) ∷ conj (leads from Y v)
-        ∷ conj (typed-as m τs (type_to from Y) ∷ differ answer m ∷ differ 1 m ∷ [])
+        ∷ conj (typed_as m τs (type_to from Y) ∷ differ answer m ∷ differ 1 m ∷ [])
         ∷ tests (suc m) ss (after (moved to from) w)
     tests m (moved_at to n index from ∷ ss) w =
         let s : ℕ = size (type_to from Y) in
         conj (leads to X w) ∷ conj (leads from Y v)
         ∷ conj (is_struct (part to w) ∷ ltb (n * s) (2 ^ 64) ∷ ltb s (2 ^ 64) ∷ has_ty (ty_int w64) (part index v) ∷ [])
         ∷ conj (leads index Y v) ∷ conj (lodged m (type_to from Y) (part index v))
-        ∷ conj (taken τs b (suc m) (past-two m) (past-three m) (number (part index v) * s) (offset_to to X o))
-        ∷ tests (past-five m) ss (after (moved_at to n index from) w)
+        ∷ conj (taken τs b (suc m) (past_two m) (past_three m) (number (part index v) * s) (offset_to to X o))
+        ∷ tests (past_five m) ss (after (moved_at to n index from) w)
 
 -- ---- the rule
 module _ {M : Type 1} {𝓤 : Ura M} (𝓛 : Logic 𝓤) (C : Calls 𝓤 𝓛.H) (Λ : Loops 𝓤 𝓛.H) (E : Env 𝓤 𝓛.H)
@@ -224,8 +224,8 @@ module _ {M : Type 1} {𝓤 : Ura M} (𝓛 : Logic 𝓤) (C : Calls 𝓤 𝓛.H)
 
     kept : (i : ℕ) → Each (spared k m i) → content i cs₃ ≡ content i cs
     kept i other =
-        content-other i (suc m) (vptr b (j + p)) cs₂ other.1.1.0 ∙ content-other i m (vptr b p) cs₁ other.1.0
-        ∙ content-other i k (vint w64 j) cs other.0
+        content_other i (suc m) (vptr b (j + p)) cs₂ other.1.1.0 ∙ content_other i m (vptr b p) cs₁ other.1.0
+        ∙ content_other i k (vint w64 j) cs other.0
 
     addressed : Each (leads to X w) → Each (leads index Y v) → T (has_ty (ty_int w64) (part index v)) → T (ltb s (2 ^ 64))
         → Number w64 j → Each (taken (types_of E) b answer k m j p) → There cs
@@ -235,9 +235,9 @@ module _ {M : Type 1} {𝓤 : Ura M} (𝓛 : Logic 𝓤) (C : Calls 𝓤 𝓛.H)
     addressed there given whole small fits own at next =
         let others = apart (spared k m 1) own.1.1.1.1.1.0 in
         let answers = apart (spared k m answer) own.1.1.1.1.0 in
-        let at₁ = content-other 1 k (vint w64 j) cs others.0 ∙ at.1 in
-        let begins = content-put m (vptr b p) cs₁ in
-        let scaled = content-other k m (vptr b p) cs₁ own.1.1.1.0 ∙ content-put k (vint w64 j) cs in
+        let at₁ = content_other 1 k (vint w64 j) cs others.0 ∙ at.1 in
+        let begins = content_put m (vptr b p) cs₁ in
+        let scaled = content_other k m (vptr b p) cs₁ own.1.1.1.0 ∙ content_put k (vint w64 j) cs in
         assigns ! (bin ! (part_of E ! answer index Y v cs type given holds at.0 (is_number (part index v) whole))
         (lit ! small) fits) (of-local ! (stop !)) (sets ! E k (vint w64 j) cs own.0 fits) $
         assigns ! (addr ! (behind E ! 1 b o cs₁ points at₁ (at_part ! to X w there))) (of-local ! (stop !))
@@ -245,7 +245,7 @@ module _ {M : Type 1} {𝓤 : Ura M} (𝓛 : Logic 𝓤) (C : Calls 𝓤 𝓛.H)
         assigns ! (bin ! (part_of E ! m [] (local_at E m).0 (vptr b p) cs₂ refl tt own.1.0 begins refl)
         (part_of E ! k [] (local_at E k).0 (vint w64 j) cs₂ refl tt own.0 scaled refl) tt) (of-local ! (stop !))
         (sets ! E (suc m) (vptr b (j + p)) cs₂ own.1.1.0 tt) $
-        next (kept answer answers ∙ at.0, kept 1 others ∙ at.1) (content-put (suc m) (vptr b (j + p)) cs₂)
+        next (kept answer answers ∙ at.0, kept 1 others ∙ at.1) (content_put (suc m) (vptr b (j + p)) cs₂)
 
 module _ {M : Type 1} {𝓤 : Ura M} (𝓛 : Logic 𝓤) (C : Calls 𝓤 𝓛.H) (Λ : Loops 𝓤 𝓛.H) (E : Env 𝓤 𝓛.H)
     (X Y : Ty) (answer k : ℕ) (v : Val) (b o : ℕ) (type : (local_at E answer).0 ≡ Y) (holds : T (takes answer (types_of E) v))
@@ -269,10 +269,10 @@ module _ {M : Type 1} {𝓤 : Ura M} (𝓛 : Logic 𝓤) (C : Calls 𝓤 𝓛.H)
   stores (plain to from ∷ ss) m w cs alike within ok at next =
       let there = apart (leads to X w) ok.0 in
       let given = apart (leads from Y v) ok.1.0 in
-      typed-in ! (along ! from Y v given (local-at ! E answer Y v cs type holds at.0)) (λ fits.
+      typed_in ! (along ! from Y v given (local-at ! E answer Y v cs type holds at.0)) (λ fits.
       assigns ! (of_opd ! (part_of E ! answer from Y v cs type given holds at.0 refl))
       (behind E ! 1 b o cs points at.1 (at_part ! to X w there))
-      (store_in ! 1 (along ! to X w there (behind-raw !)) (subst (λ (σ : Ty). Fits σ (part from v)) alike.0 fits)) $
+      (store_in ! 1 (along ! to X w there (behind_raw !)) (subst (λ (σ : Ty). Fits σ (part from v)) alike.0 fits)) $
       stores ss m (after v (plain to from) w) cs alike.1 within ok.1.1 at next)
   stores (indexed to n index from ∷ ss) m w cs alike within ok at next =
       let s : ℕ = size (type_to from Y) in
@@ -288,27 +288,27 @@ module _ {M : Type 1} {𝓤 : Ura M} (𝓛 : Logic 𝓤) (C : Calls 𝓤 𝓛.H)
       addressed 𝓛 C Λ E X Y answer k v b o type holds points to index s m w cs there (apart (leads index Y v) ok.1.1.1.0)
       fine.1.1.1.0 fine.1.1.0 (record { fits = small }) own at (λ at₃ lies.
       let cs₃ : Contents = cs₃ 𝓛 C Λ E X Y answer k v b o type holds points to index s m w cs in
-      typed-in ! (along ! from Y v given (local-at ! E answer Y v cs₃ type holds at₃.0)) (λ fits.
+      typed_in ! (along ! from Y v given (local-at ! E answer Y v cs₃ type holds at₃.0)) (λ fits.
       assigns ! (of_opd ! (part_of E ! answer from Y v cs₃ type given holds at₃.0 refl))
       (behind E ! (suc m) b (i * s + p) cs₃ own.1.1.0 lies (stop !))
-      (store_in ! 1 (at-index ! (part to w) i fine.0 within.0
+      (store_in ! 1 (at_index ! (part to w) i fine.0 within.0
       (subst (λ (σ : Ty). Part (Go {0}) 𝓛 (Cell w) full_share σ b p (part to w) (λ u. Cell (changed to w u))) alike.0
-      (along ! to X w there (behind-raw !)))) fits) $
+      (along ! to X w there (behind_raw !)))) fits) $
       stores ss (suc (suc m)) (after v (indexed to n index from) w) cs₃ alike.1 within.1 ok.1.1.1.1.1 at₃ next))
   stores (moved to from ∷ ss) m w cs alike within ok at next =
       let u : Val = part from v in
       let there = apart (leads to X w) ok.0 in
       let given = apart (leads from Y v) ok.1.0 in
-      let own = apart (typed-as m (types_of E) (type_to from Y) ∷ differ answer m ∷ differ 1 m ∷ []) ok.1.1.0 in
+      let own = apart (typed_as m (types_of E) (type_to from Y) ∷ differ answer m ∷ differ 1 m ∷ []) ok.1.1.0 in
       let cs' : Contents = put m u cs in
-      let at' : Holds cs' = (content-other answer m u cs own.1.0 ∙ at.0, content-other 1 m u cs own.1.1.0 ∙ at.1) in
-      typed-in ! (along ! from Y v given (local-at ! E answer Y v cs type holds at.0)) (λ fits.
-      let lodges = takes-as m (types_of E) (type_to from Y) u own.0 fits.0 in
+      let at' : Holds cs' = (content_other answer m u cs own.1.0 ∙ at.0, content_other 1 m u cs own.1.1.0 ∙ at.1) in
+      typed_in ! (along ! from Y v given (local-at ! E answer Y v cs type holds at.0)) (λ fits.
+      let lodges = takes_as m (types_of E) (type_to from Y) u own.0 fits.0 in
       assigns ! (of_opd ! (part_of E ! answer from Y v cs type given holds at.0 refl)) (of-local ! (stop !))
       (sets ! E m u cs lodges fits.1) $
-      assigns ! (of_opd ! (part_of E ! m [] (local_at E m).0 u cs' refl tt lodges (content-put m u cs) refl))
+      assigns ! (of_opd ! (part_of E ! m [] (local_at E m).0 u cs' refl tt lodges (content_put m u cs) refl))
       (behind E ! 1 b o cs' points at'.1 (at_part ! to X w there))
-      (store_in ! 1 (along ! to X w there (behind-raw !)) (subst (λ (σ : Ty). Fits σ u) alike.0 fits)) $
+      (store_in ! 1 (along ! to X w there (behind_raw !)) (subst (λ (σ : Ty). Fits σ u) alike.0 fits)) $
       stores ss (suc m) (after v (moved to from) w) cs' alike.1 within ok.1.1.1 at' next)
   stores (moved_at to n index from ∷ ss) m w cs alike within ok at next =
       let s : ℕ = size (type_to from Y) in
@@ -322,36 +322,36 @@ module _ {M : Type 1} {𝓤 : Ura M} (𝓛 : Logic 𝓤) (C : Calls 𝓤 𝓛.H)
       let given-x = apart (leads index Y v) ok.1.1.1.0 in
       let own = apart (lodged v X Y answer k (types_of E) b o m (type_to from Y) x) ok.1.1.1.1.0 in
       let takes-x : T (takes (suc m) (types_of E) x) = own.1.0 in
-      let clear = apart (spared (past-two m) (past-three m) answer) own.1.1.1.1.1.1.1.0 in
-      let clear-u = apart (spared (past-two m) (past-three m) m) own.1.1.1.1.1.1.1.1.0 in
-      let places = apart (taken (types_of E) b (suc m) (past-two m) (past-three m) (i * s) p) ok.1.1.1.1.1.0 in
+      let clear = apart (spared (past_two m) (past_three m) answer) own.1.1.1.1.1.1.1.0 in
+      let clear-u = apart (spared (past_two m) (past_three m) m) own.1.1.1.1.1.1.1.1.0 in
+      let places = apart (taken (types_of E) b (suc m) (past_two m) (past_three m) (i * s) p) ok.1.1.1.1.1.0 in
       let small : i * s < 2 ^ 64 =
       lt_of_le_of_lt (mul-le-mul_right s (le_of_lt within.0)) (ltb→lt (n * s) (2 ^ 64) fine.1.0) in
       let cs₁ : Contents = put m u cs in
       let cs₂ : Contents = put (suc m) x cs₁ in
       let at₁ : Holds cs₁ =
-      (content-other answer m u cs own.1.1.0 ∙ at.0, content-other 1 m u cs own.1.1.1.1.0 ∙ at.1) in
+      (content_other answer m u cs own.1.1.0 ∙ at.0, content_other 1 m u cs own.1.1.1.1.0 ∙ at.1) in
       let at₂ : Holds cs₂ =
-      (content-other answer (suc m) x cs₁ own.1.1.1.0 ∙ at₁.0, content-other 1 (suc m) x cs₁ own.1.1.1.1.1.0 ∙ at₁.1) in
-      let has-u = content-other m (suc m) x cs₁ own.1.1.1.1.1.1.0 ∙ content-put m u cs in
-      let has-x = content-put (suc m) x cs₁ in
+      (content_other answer (suc m) x cs₁ own.1.1.1.0 ∙ at₁.0, content_other 1 (suc m) x cs₁ own.1.1.1.1.1.0 ∙ at₁.1) in
+      let has-u = content_other m (suc m) x cs₁ own.1.1.1.1.1.1.0 ∙ content_put m u cs in
+      let has-x = content_put (suc m) x cs₁ in
       let I : Ty = (local_at E (suc m)).0 in
-      typed-in ! (along ! from Y v given (local-at ! E answer Y v cs type holds at.0)) (λ fits.
-      let lodges = takes-as m (types_of E) (type_to from Y) u own.0 fits.0 in
+      typed_in ! (along ! from Y v given (local-at ! E answer Y v cs type holds at.0)) (λ fits.
+      let lodges = takes_as m (types_of E) (type_to from Y) u own.0 fits.0 in
       assigns ! (of_opd ! (part_of E ! answer from Y v cs type given holds at.0 refl)) (of-local ! (stop !))
       (sets ! E m u cs lodges fits.1) $
-      typed-in ! (along ! index Y v given-x (local-at ! E answer Y v cs₁ type holds at₁.0)) (λ fits-x.
+      typed_in ! (along ! index Y v given-x (local-at ! E answer Y v cs₁ type holds at₁.0)) (λ fits-x.
       assigns ! (of_opd ! (part_of E ! answer index Y v cs₁ type given-x holds at₁.0 refl)) (of-local ! (stop !))
       (sets ! E (suc m) x cs₁ takes-x fits-x.1) $
-      addressed 𝓛 C Λ E X I (suc m) (past-two m) x b o refl takes-x points to [] s (past-three m) w cs₂ there tt fine.1.1.1.0 fine.1.1.0
+      addressed 𝓛 C Λ E X I (suc m) (past_two m) x b o refl takes-x points to [] s (past_three m) w cs₂ there tt fine.1.1.1.0 fine.1.1.0
       (record { fits = small }) places (has-x, at₂.1) (λ at₅ lies.
-      let cs₅ : Contents = cs₃ 𝓛 C Λ E X I (suc m) (past-two m) x b o refl takes-x points to [] s (past-three m) w cs₂ in
-      let keeps : (i : ℕ) → Each (spared (past-two m) (past-three m) i) → content i cs₅ ≡ content i cs₂ =
-      kept 𝓛 C Λ E X I (suc m) (past-two m) x b o refl takes-x points to [] s (past-three m) w cs₂ in
+      let cs₅ : Contents = cs₃ 𝓛 C Λ E X I (suc m) (past_two m) x b o refl takes-x points to [] s (past_three m) w cs₂ in
+      let keeps : (i : ℕ) → Each (spared (past_two m) (past_three m) i) → content i cs₅ ≡ content i cs₂ =
+      kept 𝓛 C Λ E X I (suc m) (past_two m) x b o refl takes-x points to [] s (past_three m) w cs₂ in
       assigns ! (of_opd ! (part_of E ! m [] (local_at E m).0 u cs₅ refl tt lodges (keeps m clear-u ∙ has-u) refl))
-      (behind E ! (past-four m) b (i * s + p) cs₅ places.1.1.0 lies (stop !))
-      (store_in ! 1 (at-index ! (part to w) i fine.0 within.0
+      (behind E ! (past_four m) b (i * s + p) cs₅ places.1.1.0 lies (stop !))
+      (store_in ! 1 (at_index ! (part to w) i fine.0 within.0
       (subst (λ (σ : Ty). Part (Go {0}) 𝓛 (Cell w) full_share σ b p (part to w) (λ u. Cell (changed to w u))) alike.0
-      (along ! to X w there (behind-raw !)))) fits) $
-      stores ss (past-five m) (after v (moved_at to n index from) w) cs₅ alike.1 within.1 ok.1.1.1.1.1.1
+      (along ! to X w there (behind_raw !)))) fits) $
+      stores ss (past_five m) (after v (moved_at to n index from) w) cs₅ alike.1 within.1 ok.1.1.1.1.1.1
       (keeps answer clear ∙ at₂.0, at₅.1) next)))

@@ -4,12 +4,12 @@ use Rattle.engine.specs.declared.Asked.{Asked}
 use Rattle.engine.specs.State.{state_of}
 use Rattle.engine.specs.Ladder.{write_asked}
 use Rattle.verdict.specs.declared.Found.{Found}
-use Rattle.access.proofs.Refuses.{Fitted, fit-stops, first-able, others-able, control-stops, Ticked, tables-able, row-stops, Passed}
-use Rattle.access.proofs.Finds.{found_with, row_small, bankable, Banked, findable, countable-there, full-stops}
-use Rattle.access.proofs.Finds.{Sought, due-able, servable, Due, falls-due, decidable}
+use Rattle.access.proofs.Refuses.{Fitted, fit_stops, first_able, others_able, control_stops, Ticked, tables_able, row-stops, Passed}
+use Rattle.access.proofs.Finds.{found_with, row_small, bankable, Banked, findable, countable_there, full_stops}
+use Rattle.access.proofs.Finds.{Sought, due_able, servable, Due, falls_due, decidable}
 use Rattle.access.proofs.Stages.{fitted, ticked, passed, banked, sought}
-use Rattle.access.proofs.Takes.{Taken, stays, last-stops, Going, going, movable}
-use Rattle.access.proofs.Serves.{write-refused, writable, written-long, write-stays, write_goes}
+use Rattle.access.proofs.Takes.{Taken, stays, last_stops, Going, going, movable}
+use Rattle.access.proofs.Serves.{write-refused, writable, written_long, write_stays, write_goes}
 use Rattle.access.proofs.write.Goals as goal
 
 pub returns-then-unfit-ne0-clause-promise : goal.returns-then-unfit-ne0-clause-promise
@@ -17,7 +17,7 @@ returns-then-unfit-ne0-clause-promise c =
     let l = c.args in
     let s = l.s in
     let σ = state_of l.store.now l.forward.now l.reverse.now l.rows.now l.counts.now l.control in
-    let stops = fit-stops s σ c.lengths_of-lengths.ensures c.fit_number-unfit.ensures c.if-unfit-ne0.true in
+    let stops = fit_stops s σ c.lengths_of-lengths.ensures c.fit_number-unfit.ensures c.if-unfit-ne0.true in
     (write-refused l.column l.bytes.now c.refused.ensures stops).1
 
 pub first_unsound-first-requires : goal.first_unsound-first-requires
@@ -27,7 +27,7 @@ first_unsound-first-requires c =
     let σ = state_of l.store.now l.forward.now l.reverse.now l.rows.now l.counts.now l.control in
     let fits : Fitted s σ =
     fitted s σ c.lengths_of-lengths.ensures c.fit_number-unfit.ensures c.if-unfit-ne0.false in
-    first-able fits
+    first_able fits
 
 pub others_unsound-requires : goal.others_unsound-requires
 others_unsound-requires c =
@@ -36,7 +36,7 @@ others_unsound-requires c =
     let σ = state_of l.store.now l.forward.now l.reverse.now l.rows.now l.counts.now l.control in
     let fits : Fitted s σ =
     fitted s σ c.lengths_of-lengths.ensures c.fit_number-unfit.ensures c.if-unfit-ne0.false in
-    others-able fits
+    others_able fits
 
 pub returns-then-first-others_unsound-clause-promise : goal.returns-then-first-others_unsound-clause-promise
 returns-then-first-others_unsound-clause-promise c =
@@ -45,7 +45,7 @@ returns-then-first-others_unsound-clause-promise c =
     let σ = state_of l.store.now l.forward.now l.reverse.now l.rows.now l.counts.now l.control in
     let fits : Fitted s σ =
     fitted s σ c.lengths_of-lengths.ensures c.fit_number-unfit.ensures c.if-unfit-ne0.false in
-    let stops = control-stops fits c.first_unsound-first.ensures c.others_unsound.ensures c.if-first-others_unsound.true in
+    let stops = control_stops fits c.first_unsound-first.ensures c.others_unsound.ensures c.if-first-others_unsound.true in
     (write-refused l.column l.bytes.now c.refused-then-first-others_unsound.ensures stops).1
 
 pub row_number-number-requires : goal.row_number-number-requires
@@ -56,7 +56,7 @@ row_number-number-requires c =
     let past : Ticked s σ =
     ticked s σ c.lengths_of-lengths.ensures c.fit_number-unfit.ensures c.if-unfit-ne0.false
     c.first_unsound-first.ensures c.others_unsound.ensures c.if-first-others_unsound.false in
-    tables-able past
+    tables_able past
 
 pub returns-then-number-ne0-clause-promise : goal.returns-then-number-ne0-clause-promise
 returns-then-number-ne0-clause-promise c =
@@ -104,7 +104,7 @@ returns-then-is_full-clause-promise c =
     c.first_unsound-first.ensures c.others_unsound.ensures c.if-first-others_unsound.false
     c.write_asked-asked.ensures c.row_number-number.ensures c.if-number-ne0.false
     c.forward_of-entry.ensures c.place-place.ensures c.bank_at-bank.ensures in
-    (write-refused l.column l.bytes.now c.refused-then-is_full.ensures (full-stops at c.is_full.ensures c.if-is_full.true)).1
+    (write-refused l.column l.bytes.now c.refused-then-is_full.ensures (full_stops at c.is_full.ensures c.if-is_full.true)).1
 
 pub find-requires : goal.find-requires
 find-requires c =
@@ -130,7 +130,7 @@ update_of-update-requires c =
     c.first_unsound-first.ensures c.others_unsound.ensures c.if-first-others_unsound.false
     c.write_asked-asked.ensures c.row_number-number.ensures c.if-number-ne0.false
     c.forward_of-entry.ensures c.place-place.ensures c.bank_at-bank.ensures in
-    countable-there at c.find.ensures
+    countable_there at c.find.ensures
 
 pub is_due-requires : goal.is_due-requires
 is_due-requires c =
@@ -145,7 +145,7 @@ is_due-requires c =
     c.write_asked-asked.ensures c.row_number-number.ensures c.if-number-ne0.false
     c.forward_of-entry.ensures c.place-place.ensures c.bank_at-bank.ensures
     c.is_full.ensures c.if-is_full.false c.find.ensures c.update_of-update.ensures in
-    due-able known
+    due_able known
 
 pub decide-v-requires : goal.decide-v-requires
 decide-v-requires c =
@@ -160,7 +160,7 @@ decide-v-requires c =
     c.write_asked-asked.ensures c.row_number-number.ensures c.if-number-ne0.false
     c.forward_of-entry.ensures c.place-place.ensures c.bank_at-bank.ensures
     c.is_full.ensures c.if-is_full.false c.find.ensures c.update_of-update.ensures in
-    let falls : Due s σ a f = falls-due known c.is_due.ensures c.if-is_due.true in
+    let falls : Due s σ a f = falls_due known c.is_due.ensures c.if-is_due.true in
     decidable falls
 
 pub returns-then-last-ne0-clause-promise : goal.returns-then-last-ne0-clause-promise
@@ -176,8 +176,8 @@ returns-then-last-ne0-clause-promise c =
     c.write_asked-asked.ensures c.row_number-number.ensures c.if-number-ne0.false
     c.forward_of-entry.ensures c.place-place.ensures c.bank_at-bank.ensures
     c.is_full.ensures c.if-is_full.false c.find.ensures c.update_of-update.ensures in
-    let falls : Due s σ a f = falls-due known c.is_due.ensures c.if-is_due.true in
-    (write-refused l.column l.bytes.now c.refused-then-last-ne0.ensures (last-stops falls c.decide-v.ensures c.if-last-ne0.true)).1
+    let falls : Due s σ a f = falls_due known c.is_due.ensures c.if-is_due.true in
+    (write-refused l.column l.bytes.now c.refused-then-last-ne0.ensures (last_stops falls c.decide-v.ensures c.if-last-ne0.true)).1
 
 pub write_row-requires : goal.write_row-requires
 write_row-requires c =
@@ -192,7 +192,7 @@ write_row-requires c =
     c.write_asked-asked.ensures c.row_number-number.ensures c.if-number-ne0.false
     c.forward_of-entry.ensures c.place-place.ensures c.bank_at-bank.ensures
     c.is_full.ensures c.if-is_full.false c.find.ensures c.update_of-update.ensures in
-    let falls : Due s σ a f = falls-due known c.is_due.ensures c.if-is_due.true in
+    let falls : Due s σ a f = falls_due known c.is_due.ensures c.if-is_due.true in
     let gone : Going s σ a f c.decide-v.result = going falls c.decide-v.ensures c.if-last-ne0.false in
     writable gone.taken
 
@@ -224,9 +224,9 @@ go-requires-clause-movable c =
     c.write_asked-asked.ensures c.row_number-number.ensures c.if-number-ne0.false
     c.forward_of-entry.ensures c.place-place.ensures c.bank_at-bank.ensures
     c.is_full.ensures c.if-is_full.false c.find.ensures c.update_of-update.ensures in
-    let falls : Due s σ a f = falls-due known c.is_due.ensures c.if-is_due.true in
+    let falls : Due s σ a f = falls_due known c.is_due.ensures c.if-is_due.true in
     let gone : Going s σ a f c.decide-v.result = going falls c.decide-v.ensures c.if-last-ne0.false in
-    movable gone (written-long l.column l.bytes.now c.write_row.ensures gone.taken)
+    movable gone (written_long l.column l.bytes.now c.write_row.ensures gone.taken)
 
 pub returns-then-is_due-clause-bank : goal.returns-then-is_due-clause-bank
 returns-then-is_due-clause-bank c =
@@ -241,7 +241,7 @@ returns-then-is_due-clause-bank c =
     c.write_asked-asked.ensures c.row_number-number.ensures c.if-number-ne0.false
     c.forward_of-entry.ensures c.place-place.ensures c.bank_at-bank.ensures
     c.is_full.ensures c.if-is_full.false c.find.ensures c.update_of-update.ensures in
-    let falls : Due s σ a f = falls-due known c.is_due.ensures c.if-is_due.true in
+    let falls : Due s σ a f = falls_due known c.is_due.ensures c.if-is_due.true in
     let gone : Going s σ a f c.decide-v.result = going falls c.decide-v.ensures c.if-last-ne0.false in
     (write_goes l.column l.bytes.now c.write_row.ensures gone
     (c.go.ensures.answer, (c.go.ensures.storage, (c.go.ensures.rows, c.go.ensures.counts)))).0
@@ -259,7 +259,7 @@ returns-then-is_due-clause-promise c =
     c.write_asked-asked.ensures c.row_number-number.ensures c.if-number-ne0.false
     c.forward_of-entry.ensures c.place-place.ensures c.bank_at-bank.ensures
     c.is_full.ensures c.if-is_full.false c.find.ensures c.update_of-update.ensures in
-    let falls : Due s σ a f = falls-due known c.is_due.ensures c.if-is_due.true in
+    let falls : Due s σ a f = falls_due known c.is_due.ensures c.if-is_due.true in
     let gone : Going s σ a f c.decide-v.result = going falls c.decide-v.ensures c.if-last-ne0.false in
     (write_goes l.column l.bytes.now c.write_row.ensures gone
     (c.go.ensures.answer, (c.go.ensures.storage, (c.go.ensures.rows, c.go.ensures.counts)))).1
@@ -309,7 +309,7 @@ returns-clause-bank c =
     c.forward_of-entry.ensures c.place-place.ensures c.bank_at-bank.ensures
     c.is_full.ensures c.if-is_full.false c.find.ensures c.update_of-update.ensures in
     let rests : Taken s σ a f false = stays known c.is_due.ensures c.if-is_due.false in
-    (write-stays l.column l.bytes.now c.write_row-2.ensures rests
+    (write_stays l.column l.bytes.now c.write_row-2.ensures rests
     (c.stay.ensures.answer, (c.stay.ensures.rows, c.stay.ensures.counts))).0
 
 pub returns-clause-promise : goal.returns-clause-promise
@@ -326,5 +326,5 @@ returns-clause-promise c =
     c.forward_of-entry.ensures c.place-place.ensures c.bank_at-bank.ensures
     c.is_full.ensures c.if-is_full.false c.find.ensures c.update_of-update.ensures in
     let rests : Taken s σ a f false = stays known c.is_due.ensures c.if-is_due.false in
-    (write-stays l.column l.bytes.now c.write_row-2.ensures rests
+    (write_stays l.column l.bytes.now c.write_row-2.ensures rests
     (c.stay.ensures.answer, (c.stay.ensures.rows, c.stay.ensures.counts))).1

@@ -2,7 +2,7 @@
 use Rattle.std.proofs.Common.{◌≡◌, ap, ◌∙◌}
 use Rattle.engine.specs.State.{State, state_of}
 use Rattle.engine.specs.Ladder.{fit_number, set_up_number}
-use Rattle.epoch.proofs.Serves.{set_up-refused, set_up-done}
+use Rattle.epoch.proofs.Serves.{set_up_refused, set_up-done}
 use Rattle.epoch.proofs.set_up.Goals as goal
 use Rattle.epoch.proofs.set_up.Goals.{After-fit_number-unfit}
 
@@ -19,7 +19,7 @@ number_is c = c.fit_number-unfit.ensures ∙ ap (fit_number c.args.s) c.lengths_
 pub returns-then-unfit-ne0 : goal.returns-then-unfit-ne0
 returns-then-unfit-ne0 c =
     let n = (goal.at.returns-then-unfit-ne0 c).After-fit_number-unfit in
-    set_up-refused c.args.s (lent n) _ (number_is n) c.if-unfit-ne0.true
+    set_up_refused c.args.s (lent n) _ (number_is n) c.if-unfit-ne0.true
 
 pub returns : goal.returns
 returns c =

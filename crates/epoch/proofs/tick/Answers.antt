@@ -3,7 +3,7 @@ use Rattle.std.proofs.Common.{◌≡◌, ap, ◌∙◌}
 use Rattle.geometry.specs.declared.Lengths.{Lengths}
 use Rattle.engine.specs.State.{State, state_of}
 use Rattle.engine.specs.Ladder.{control_number, tick_number}
-use Rattle.epoch.proofs.Serves.{tick-banks, tick-refused, tick-done}
+use Rattle.epoch.proofs.Serves.{tick_banks, tick-refused, tick-done}
 use Rattle.epoch.proofs.tick.Goals as goal
 use Rattle.epoch.proofs.tick.Goals.{After-control_number-number}
 
@@ -28,12 +28,12 @@ returns-then-number-ne0 c =
 pub zero_below-next_spill-requires : goal.zero_below-next_spill-requires
 zero_below-next_spill-requires c =
     let n = (goal.at.zero_below-next_spill-requires c).After-control_number-number in
-    tick-banks c.args.s (lent n) _ (number_is n) c.if-number-ne0.false
+    tick_banks c.args.s (lent n) _ (number_is n) c.if-number-ne0.false
 
 pub zero_below-next_acts-requires : goal.zero_below-next_acts-requires
 zero_below-next_acts-requires c =
     let n = (goal.at.zero_below-next_acts-requires c).After-control_number-number in
-    tick-banks c.args.s (lent n) _ (number_is n) c.if-number-ne0.false
+    tick_banks c.args.s (lent n) _ (number_is n) c.if-number-ne0.false
 
 pub returns : goal.returns
 returns c =

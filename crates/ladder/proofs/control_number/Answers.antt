@@ -1,7 +1,7 @@
 -- 1 to 3 are judged, then 4 in two parts.
 use Rattle.std.proofs.Common.{sym, ◌∙◌}
 use Rattle.engine.proofs.Rungs.{goes_by, applies}
-use Rattle.ladder.proofs.Stages.{tick-stops, first-asked, others-asked, tick_goes}
+use Rattle.ladder.proofs.Stages.{tick-stops, first-asked, others_asked, tick_goes}
 use Rattle.ladder.proofs.control_number.Goals as goal
 
 pub returns-then-number-ne0 : goal.returns-then-number-ne0
@@ -17,7 +17,7 @@ first_unsound-first-requires c =
 pub others_unsound-requires : goal.others_unsound-requires
 others_unsound-requires c =
     let a = c.args in
-    others-asked a.s a.lengths a.control a.counts.now c.fit_number-number.ensures c.if-number-ne0.false c.requires
+    others_asked a.s a.lengths a.control a.counts.now c.fit_number-number.ensures c.if-number-ne0.false c.requires
 
 pub returns-then-first-others_unsound : goal.returns-then-first-others_unsound
 returns-then-first-others_unsound c =

@@ -3,7 +3,7 @@ use Rattle.std.proofs.Common.{◌≡◌, ap, ◌∙◌}
 use Rattle.geometry.specs.declared.Lengths.{Lengths}
 use Rattle.engine.specs.State.{State, state_of}
 use Rattle.engine.specs.Ladder.{control_number, tick_number, look_asked, row_number, inspect_number}
-use Rattle.ladder.proofs.Stages.{tabled, early-ends, early-goes}
+use Rattle.ladder.proofs.Stages.{tabled, early_ends, early_goes}
 use Rattle.look.proofs.inspect_number.Goals as goal
 use Rattle.look.proofs.inspect_number.Goals.{After-control_number-first}
 
@@ -24,7 +24,7 @@ pub returns-then-first-ne0 : goal.returns-then-first-ne0
 unfolding inspect_number
 returns-then-first-ne0 c =
     let n = (goal.at.returns-then-first-ne0 c).After-control_number-first in
-    early-ends c.args.s (lent n) (look_asked c.args.row) (number_is n) c.if-first-ne0.true
+    early_ends c.args.s (lent n) (look_asked c.args.row) (number_is n) c.if-first-ne0.true
 
 pub row_number-requires : goal.row_number-requires
 row_number-requires c =
@@ -35,5 +35,5 @@ pub returns : goal.returns
 unfolding inspect_number
 returns c =
     let n = (goal.at.returns c).After-control_number-first in
-    early-goes c.args.s (lent n) (look_asked c.args.row) (number_is n) c.if-first-ne0.false
+    early_goes c.args.s (lent n) (look_asked c.args.row) (number_is n) c.if-first-ne0.false
     (c.row_number.ensures ∙ ap (row_number c.args.s (lent n).tables) c.look_asked.ensures)

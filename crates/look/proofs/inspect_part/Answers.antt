@@ -1,8 +1,8 @@
 -- Nothing where the number is not 0, else the row's part.
 use Rattle.std.proofs.Common.{refl}
 use Rattle.engine.specs.State.{State, state_of}
-use Rattle.engine.proofs.Parts.{row_fits, part-inside}
-use Rattle.look.proofs.Serves.{part_none, part-row}
+use Rattle.engine.proofs.Parts.{row_fits, part_inside}
+use Rattle.look.proofs.Serves.{part_none, part_row}
 use Rattle.look.proofs.inspect_part.Goals as goal
 use Rattle.look.proofs.inspect_part.Goals.{After-inspect_number-number}
 
@@ -26,11 +26,11 @@ place_of-place-requires c =
 pub row_part-requires : goal.row_part-requires
 row_part-requires c =
     let n = (goal.at.row_part-requires c).After-inspect_number-number in
-    part-inside c.args.s (lent n) c.args.row _ c.inspect_number-number.ensures c.if-number-ne0.false _
+    part_inside c.args.s (lent n) c.args.row _ c.inspect_number-number.ensures c.if-number-ne0.false _
     c.place_of-place.ensures
 
 pub returns : goal.returns
 returns c =
     let n = (goal.at.returns c).After-inspect_number-number in
-    part-row c.args.s (lent n) c.args.row _ c.inspect_number-number.ensures c.args.store.ref_ptr _ _
+    part_row c.args.s (lent n) c.args.row _ c.inspect_number-number.ensures c.args.store.ref_ptr _ _
     c.if-number-ne0.false _ c.place_of-place.ensures c.row_part.ensures.bytes c.row_part.ensures.lies

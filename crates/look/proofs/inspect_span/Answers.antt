@@ -1,8 +1,8 @@
 -- Length 0 where the number is not 0, else the place's first byte and W.
 use Rattle.std.proofs.Common.{refl, arith}
 use Rattle.engine.specs.State.{State, state_of}
-use Rattle.engine.proofs.Parts.{row_fits, part-inside}
-use Rattle.figures.proofs.Spans.{span_none, span-row}
+use Rattle.engine.proofs.Parts.{row_fits, part_inside}
+use Rattle.figures.proofs.Spans.{span_none, span_row}
 use Rattle.look.proofs.inspect_span.Goals as goal
 use Rattle.look.proofs.inspect_span.Goals.{After-inspect_number-number}
 
@@ -27,12 +27,12 @@ overflow_mul-result c =
     let n = (goal.at.overflow_mul-result c).After-inspect_number-number in
     omega (
       arith,
-      part-inside c.args.s (lent n) c.args.row _ c.inspect_number-number.ensures c.if-number-ne0.false _
+      part_inside c.args.s (lent n) c.args.row _ c.inspect_number-number.ensures c.if-number-ne0.false _
           c.place_of-place.ensures,
     )
 
 pub returns : goal.returns
 returns c =
     let n = (goal.at.returns c).After-inspect_number-number in
-    span-row c.args.s (lent n) c.args.row _ c.inspect_number-number.ensures c.if-number-ne0.false _
+    span_row c.args.s (lent n) c.args.row _ c.inspect_number-number.ensures c.if-number-ne0.false _
     c.place_of-place.ensures _ refl

@@ -1,5 +1,5 @@
 use Rattle.std.proofs.Common.{arith, sym, ◌∙◌}
-use Rattle.number_text.proofs.Blank.{gap-passed, no_gap, all-passed}
+use Rattle.number_text.proofs.Blank.{gap_passed, no_gap, all_passed}
 use Rattle.number_text.proofs.is_blank.Goals as goal
 
 pub returns-then-not-is_gap : goal.returns-then-not-is_gap
@@ -12,8 +12,8 @@ loop-i-preserved c =
     let gap = sym c.is_gap.ensures ∙ c.if-not-is_gap.false in
     record {
       within = omega arith;
-      same = c.loop-i.invariant.same ∙ gap-passed c.args.text.now c.loop-i.i c.loop-i-test.true gap;
+      same = c.loop-i.invariant.same ∙ gap_passed c.args.text.now c.loop-i.i c.loop-i-test.true gap;
     }
 
 pub returns : goal.returns
-returns c = sym (c.loop-i.invariant.same ∙ all-passed c.args.text.now c.loop-i.i c.loop-i-test.false)
+returns c = sym (c.loop-i.invariant.same ∙ all_passed c.args.text.now c.loop-i.i c.loop-i-test.false)

@@ -1,5 +1,5 @@
 use Rattle.std.proofs.Common.{[], rules, sym, ◌∙◌}
-use Rattle.number_text.proofs.Outcomes.{starts, past-text, all_listed, not_good}
+use Rattle.number_text.proofs.Outcomes.{starts, past_text, all_listed, not_good}
 use Rattle.number_text.proofs.read_numbers.Goals as goal
 
 pub loop-i-init : goal.loop-i-init
@@ -9,7 +9,7 @@ pub returns-then-last-clause-numbers : goal.returns-then-last-clause-numbers
 returns-then-last-clause-numbers c =
     let l = c.loop-i in
     let e = c.end_number-last in
-    let past = past-text l.list l.s c.args.text.now l.i e.new.list e.result c.loop-i-test.false e.ensures.past in
+    let past = past_text l.list l.s c.args.text.now l.i e.new.list e.result c.loop-i-test.false e.ensures.past in
     let all = all_listed e.new.list e.result c.if-last.true e.ensures.outside e.ensures.past.within in
     sym (l.invariant.same ∙ past ∙ all)
 
@@ -17,5 +17,5 @@ pub returns-clause-numbers : goal.returns-clause-numbers
 returns-clause-numbers c =
     let l = c.loop-i in
     let e = c.end_number-last in
-    let past = past-text l.list l.s c.args.text.now l.i e.new.list e.result c.loop-i-test.false e.ensures.past in
+    let past = past_text l.list l.s c.args.text.now l.i e.new.list e.result c.loop-i-test.false e.ensures.past in
     sym (l.invariant.same ∙ past ∙ not_good e.new.list e.result [] c.if-last.false)

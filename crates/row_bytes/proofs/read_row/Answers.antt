@@ -1,6 +1,6 @@
 -- The row is written over the whole buffer.
 use Rattle.std.proofs.Common.{arith, ◌≡◌, ap, ◌∙◌, length}
-use Rattle.basics.proofs.Pastes.{paste-over}
+use Rattle.basics.proofs.Pastes.{paste_over}
 use Rattle.row_layout.proofs.Laws.{length-row}
 use Rattle.row_bytes.proofs.read_row.Goals as goal
 
@@ -16,4 +16,4 @@ returns c =
     let fits : length a.buffer.now ≡ length row.result.now =
     omega (arith, ap length row.ensures.bytes, length-row a.w a.store.now a.place.0 c.requires.1)
     in
-    c.put_bytes.ensures ∙ paste-over _ _ fits ∙ row.ensures.bytes
+    c.put_bytes.ensures ∙ paste_over _ _ fits ∙ row.ensures.bytes

@@ -1,9 +1,9 @@
 -- `trace::put_lines`: the page has the room that any file's lines need. Assumes nothing.
 use Rattle.std.proofs.Common.{take}
-use Rattle.replay.proofs.Judging.{page-wide}
+use Rattle.replay.proofs.Judging.{page_wide}
 use Rattle.trace.proofs.put_lines.Goals as goal
 
 pub returns-in-Read-clause-printed : goal.returns-in-Read-clause-printed
 returns-in-Read-clause-printed g c =
-    let wide = page-wide (take c.in-Read.count c.args.text.now) c.requires.1 in
+    let wide = page_wide (take c.in-Read.count c.args.text.now) c.requires.1 in
     cc

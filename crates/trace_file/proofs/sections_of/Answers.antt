@@ -1,10 +1,10 @@
 -- One law of `form_of` for each return.
 use Rattle.std.proofs.Common.{sym}
-use Rattle.trace_file.proofs.Sections.{no-numbers, first-refused, too_few, not-formed, well-formed}
+use Rattle.trace_file.proofs.Sections.{no_numbers, first-refused, too_few, not_formed, well_formed}
 use Rattle.trace_file.proofs.sections_of.Goals as goal
 
 pub returns-then-count-eq0 : goal.returns-then-count-eq0
-returns-then-count-eq0 c = sym (no-numbers c.args.numbers.now c.args.count c.requires c.if-count-eq0.true)
+returns-then-count-eq0 c = sym (no_numbers c.args.numbers.now c.args.count c.requires c.if-count-eq0.true)
 
 pub returns-then-not-settings : goal.returns-then-not-settings
 returns-then-not-settings c =
@@ -17,7 +17,7 @@ returns-then-count-first c =
 pub returns-then-not-has_steps : goal.returns-then-not-has_steps
 returns-then-not-has_steps c =
     sym
-    (not-formed
+    (not_formed
     c.args.numbers.now
     c.args.count
     c.requires
@@ -30,7 +30,7 @@ pub returns : goal.returns
 returns c =
     rw c.settings_of.ensures
     (sym
-    (well-formed
+    (well_formed
     c.args.numbers.now
     c.args.count
     c.requires

@@ -1,5 +1,5 @@
 use Rattle.engine.specs.State.{state_of, new_control}
-use Rattle.trace_steps.proofs.Running.{running_more, running-all}
+use Rattle.trace_steps.proofs.Running.{running_more, running_all}
 use Rattle.trace_steps.proofs.run.Goals as goal
 
 pub loop-i-preserved : goal.loop-i-preserved
@@ -13,4 +13,4 @@ pub returns-clause-printed : goal.returns-clause-printed
 returns-clause-printed c =
     let a = c.args in
     let lent = state_of a.store.now a.forward.now a.reverse.now a.rows.now a.counts.now new_control in
-    running-all a.s lent c.loop-i-test.false c.loop-i.invariant c.set_up-new.ensures
+    running_all a.s lent c.loop-i-test.false c.loop-i.invariant c.set_up-new.ensures

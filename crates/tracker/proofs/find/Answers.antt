@@ -3,13 +3,13 @@ use Rattle.std.proofs.Common.{arith, ℕ, ◌+◌, ◌*◌, ◌≤◌, List, eqb
 use Rattle.basics.specs.Portions.{portion}
 use Rattle.basics.proofs.Portions.{portion-lent, length-portion}
 use Rattle.scan.specs.Scan.{index_of}
-use Rattle.scan.proofs.Scans.{lowest-le}
+use Rattle.scan.proofs.Scans.{lowest_le}
 use Rattle.tracking.proofs.Banks.{entry_named, entry_free}
 use Rattle.tracker.proofs.find.Goals as goal
 
 -- a search ends with the part
 found-most : (k c x : ℕ) (xs : List ℕ) → c * k + k ≤ length xs → index_of x (portion k c xs) ≤ k
-found-most k c x xs fits = omega (arith, lowest-le (λ y. eqb y x) (portion k c xs), length-portion k c xs fits)
+found-most k c x xs fits = omega (arith, lowest_le (λ y. eqb y x) (portion k c xs), length-portion k c xs fits)
 
 pub overflow_add-i : goal.overflow_add-i
 overflow_add-i c =
@@ -20,7 +20,7 @@ overflow_add-i c =
 pub returns-then-i-to : goal.returns-then-i-to
 returns-then-i-to c =
     let a = c.args in
-    entry_named a.k a.bank.index a.rows.now a.counts.now c.requires.in_rows c.requires.in-counts
+    entry_named a.k a.bank.index a.rows.now a.counts.now c.requires.in_rows c.requires.in_counts
     a.place.0 a.bank.spill c.index_of_row.result
     (c.index_of_row.ensures ∙ ap (index_of a.place.0) (portion-lent a.k a.bank.index a.rows.now))
     (omega (arith, c.if-i-to.true))
@@ -29,12 +29,12 @@ pub overflow_add-result : goal.overflow_add-result
 overflow_add-result c =
     let a = c.args in
     let count-is = c.index_of_count.ensures ∙ ap (index_of a.bank.spill) (portion-lent a.k a.bank.index a.counts.now) in
-    omega (arith, count-is, found-most a.k a.bank.index a.bank.spill a.counts.now c.requires.in-counts)
+    omega (arith, count-is, found-most a.k a.bank.index a.bank.spill a.counts.now c.requires.in_counts)
 
 pub returns : goal.returns
 returns c =
     let a = c.args in
-    entry_free a.k a.bank.index a.rows.now a.counts.now c.requires.in_rows c.requires.in-counts
+    entry_free a.k a.bank.index a.rows.now a.counts.now c.requires.in_rows c.requires.in_counts
     a.place.0 a.bank.spill c.index_of_row.result
     (c.index_of_row.ensures ∙ ap (index_of a.place.0) (portion-lent a.k a.bank.index a.rows.now))
     c.index_of_count.result

@@ -2,7 +2,7 @@
 use Rattle.std.proofs.Common.{◌∙◌}
 use Rattle.engine.specs.State.{tables_of}
 use Rattle.seek.specs.Seeking.{skips_before}
-use Rattle.verdict.proofs.Judged.{over-in, verdict-of-all}
+use Rattle.verdict.proofs.Judged.{over_in, verdict_of_all}
 use Rattle.verdict.proofs.decide.Goals as goal
 
 pub judge-requires : goal.judge-requires
@@ -13,8 +13,8 @@ judge-requires c =
     record {
       tabled = pre.tabled;
       head_in = pre.head_in;
-      passed-in = pre.passed-in;
-      over-in = over-in a.s a.ring (tables_of a.forward.now a.reverse.now) skip pre.passed-in c.skipped-over.ensures;
+      passed_in = pre.passed_in;
+      over_in = over_in a.s a.ring (tables_of a.forward.now a.reverse.now) skip pre.passed_in c.skipped-over.ensures;
     }
 
 pub returns : goal.returns
@@ -22,4 +22,4 @@ returns c =
     let a = c.args in
     let skip = skips_before a.s a.f.entry.0 a.f.update.entry a.rows.now a.counts.now in
     c.judge.ensures
-    ∙ verdict-of-all a.s a.ring (tables_of a.forward.now a.reverse.now) skip c.requires.passed-in c.skipped-over.ensures
+    ∙ verdict_of_all a.s a.ring (tables_of a.forward.now a.reverse.now) skip c.requires.passed_in c.skipped-over.ensures

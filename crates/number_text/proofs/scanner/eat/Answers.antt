@@ -1,6 +1,6 @@
 -- One law of `outcome` for each return.
 use Rattle.std.proofs.Common.{sym, ◌∙◌}
-use Rattle.number_text.proofs.Outcomes.{digit-read, gap-read, byte-refused, past-refused}
+use Rattle.number_text.proofs.Outcomes.{digit-read, gap_read, byte-refused, past_refused}
 use Rattle.number_text.proofs.scanner.eat.Goals as goal
 
 pub returns-then-b : goal.returns-then-b
@@ -19,11 +19,11 @@ returns-then-is_gap c =
     let gap = sym c.is_gap.ensures ∙ c.if-is_gap.true in
     record {
       within = e.within;
-      same = λ rest. e.same rest ∙ gap-read a.list.now a.s rest a.b c.if-b.false gap;
+      same = λ rest. e.same rest ∙ gap_read a.list.now a.s rest a.b c.if-b.false gap;
     }
 
 pub returns : goal.returns
 returns c =
     let a = c.args in
     let gap = sym c.is_gap.ensures ∙ c.if-is_gap.false in
-    past-refused a.list.now a.s a.b (λ rest. byte-refused a.list.now a.s rest a.b c.if-b.false gap)
+    past_refused a.list.now a.s a.b (λ rest. byte-refused a.list.now a.s rest a.b c.if-b.false gap)

@@ -1,7 +1,7 @@
 -- One law of `outcome` for each return.
 use Rattle.std.proofs.Common.{arith, rules, length-set}
 use borrow.Author.Tests.{not-false}
-use Rattle.number_text.proofs.Outcomes.{blank-skipped, number-listed, list_full, past-refused}
+use Rattle.number_text.proofs.Outcomes.{blank-skipped, number-listed, list_full, past_refused}
 use Rattle.number_text.proofs.scanner.end_number.Goals as goal
 
 pub returns-then-not-s-clause-past : goal.returns-then-not-s-clause-past
@@ -21,4 +21,4 @@ pub returns-clause-past : goal.returns-clause-past
 returns-clause-past c =
     let a = c.args in
     let e = not-false a.s.inside c.if-not-s.false in
-    past-refused a.list.now a.s 32 (λ rest. list_full a.list.now a.s rest e c.if-at-list.false)
+    past_refused a.list.now a.s 32 (λ rest. list_full a.list.now a.s rest e c.if-at-list.false)

@@ -1,23 +1,23 @@
 -- Each part is as long as the settings say, and zero.
-use Rattle.conditions.proofs.Facts.{ranges-facts}
+use Rattle.conditions.proofs.Facts.{ranges_facts}
 use Rattle.trace_steps.proofs.Blank.{part}
-use Rattle.replay.proofs.Memory.{new-memory, new-lines}
+use Rattle.replay.proofs.Memory.{new_memory, new-lines}
 use Rattle.replay.proofs.new_memory.on_new_memory.Goals as goal
 
 pub slice_bounds-forward-end : goal.slice_bounds-forward-end
-slice_bounds-forward-end c = (part c.forward_buffer-forward.ensures (ranges-facts c.args.s c.requires.0).n-high).fits
+slice_bounds-forward-end c = (part c.forward_buffer-forward.ensures (ranges_facts c.args.s c.requires.0).n_high).fits
 
 pub slice_bounds-run-end-2 : goal.slice_bounds-run-end-2
-slice_bounds-run-end-2 c = (part c.forward_buffer-forward.ensures (ranges-facts c.args.s c.requires.0).n-high).long
+slice_bounds-run-end-2 c = (part c.forward_buffer-forward.ensures (ranges_facts c.args.s c.requires.0).n_high).long
 
 pub slice_bounds-reverse-end : goal.slice_bounds-reverse-end
-slice_bounds-reverse-end c = (part c.reverse_buffer-reverse.ensures (ranges-facts c.args.s c.requires.0).q-high).fits
+slice_bounds-reverse-end c = (part c.reverse_buffer-reverse.ensures (ranges_facts c.args.s c.requires.0).q_high).fits
 
 pub slice_bounds-run-end-3 : goal.slice_bounds-run-end-3
-slice_bounds-run-end-3 c = (part c.reverse_buffer-reverse.ensures (ranges-facts c.args.s c.requires.0).q-high).long
+slice_bounds-run-end-3 c = (part c.reverse_buffer-reverse.ensures (ranges_facts c.args.s c.requires.0).q_high).long
 
 pub run-requires : goal.run-requires
-run-requires c = ((ranges-facts c.args.s c.requires.0).w-high, c.requires.4)
+run-requires c = ((ranges_facts c.args.s c.requires.0).w_high, c.requires.4)
 
 pub returns-clause-printed : goal.returns-clause-printed
 returns-clause-printed c =
@@ -27,4 +27,4 @@ returns-clause-printed c =
     let reverse = c.reverse_buffer-reverse.ensures in
     let rows = c.rows_buffer-rows.ensures in
     let counts = c.counts_buffer-counts.ensures in
-    new-lines pre.2 pre.3 c.args.steps.now (new-memory pre.2 pre.3 pre.0 pre.1 store forward reverse rows counts) c.run.ensures.printed
+    new-lines pre.2 pre.3 c.args.steps.now (new_memory pre.2 pre.3 pre.0 pre.1 store forward reverse rows counts) c.run.ensures.printed
