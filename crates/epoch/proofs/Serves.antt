@@ -1,11 +1,12 @@
 -- Set-up and tick as the code puts them together are the definitions of `Calls`. Assumes nothing.
 use Prim.Native.Nat.{ℕ, ◌≤◌}
-use mathlib.Core.Path.{◌≡◌, sym, ap, ◌∙◌}
+use mathlib.Core.Path.{◌≡◌, refl, sym, ap, ◌∙◌}
 use mathlib.Core.Logic.{◌≢◌}
 use mathlib.Core.List.{List}
 use lib.ListN.{length, replicate}
 use borrow.Author.Tests.{ne_eqb}
 use Rattle.geometry.specs.declared.Settings.{Settings}
+use Rattle.geometry.specs.declared.Control.{Control}
 use Rattle.geometry.specs.Entry.{empty}
 use Rattle.conditions.proofs.Facts.{ranges_facts, lengths_facts}
 use Rattle.engine.specs.State.{State, state_of, lengths_of}
@@ -60,3 +61,10 @@ module _ (S : Settings) (σ : State) (x : ℕ) where
   tick-done e z rows counts spill acts eo ec es ea =
       let X = lengths_facts S (lengths_of σ) (tick_facts S σ (sym e ∙ z)).0.lengths in
       rw (filled empty eo X.rows, filled 0 ec X.counts, es, ea) (noted-done S σ (ticked S σ) (tick_number S σ) (sym e ∙ z))
+
+-- a set-up that is refused, of what is lent
+pub set_up_told : (S : Settings) (store forward reverse rows counts : List ℕ) (control : Control) →
+    let σ : State = state_of store forward reverse rows counts control in
+    set_up_number S σ ≢ 0 → set_up S σ ≡ noted_of σ (set_up_number S σ)
+set_up_told S store forward reverse rows counts control n =
+    sym (set_up_refused S (state_of store forward reverse rows counts control) _ refl n)

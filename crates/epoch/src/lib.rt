@@ -17,6 +17,7 @@ pub struct Numbered {
 }
 
 // Set-up: returns its number, and makes everything lent but the store as new where it is 0.
+#[tactic(auto, using(crate::proofs::Serves::set_up_told))]
 pub fn set_up(
     control: Control,
     s: Settings,

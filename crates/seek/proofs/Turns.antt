@@ -2,7 +2,7 @@
 use Prim.Native.Nat.{ℕ, suc, ◌+◌, ◌-◌, ◌%◌, ◌<◌, ◌≤◌, zero-le}
 use native.Mathlib.Nat.{zero-add, sub-zero}
 use native.Mathlib.Omega.{arith}
-use mathlib.Core.Path.{◌≡◌, sym, ap, ◌∙◌}
+use mathlib.Core.Path.{◌≡◌, refl, sym, ap, ◌∙◌}
 use mathlib.Core.Logic.{inl, inr}
 use mathlib.Core.Bool.{Bool, true, false, cond}
 use lib.Dec.{ltb}
@@ -54,3 +54,8 @@ first_tell skip q most from first {few} {n} e told =
           told ∙ ap (λ (k : ℕ). skipped_of skip q k from) (e ∙ rw (le-ltb most first h)) in
           λ b. whole ∙ sym (cut_short skip q first most from h (rw whole at b))
     ]
+
+-- the same of the first 16
+pub first_16 : (skip : ℕ → Bool) (q most from : ℕ) → skipped_of skip q (cond (ltb most 16) most 16) from < 16
+    → skipped_of skip q most from ≡ skipped_of skip q (cond (ltb most 16) most 16) from
+first_16 skip q most from b = sym (first_tell skip q most from 16 refl refl b)

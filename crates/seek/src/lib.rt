@@ -36,6 +36,7 @@ fn least(a: u32, b: u32) -> u32
 }
 
 // Returns how many slots the head skips, of the Q − `passed` that it may still look at.
+#[tactic(auto, using(crate::proofs::Turns::first_16))]
 pub fn skipped(
     s: Settings,
     ring: Ring,

@@ -1,8 +1,8 @@
 -- Refused by its number, or all cleared.
-use Rattle.std.proofs.Common.{◌≡◌, ap, ◌∙◌}
+use Rattle.std.proofs.Common.{arith, ◌≡◌, ap, ◌∙◌}
 use Rattle.engine.specs.State.{State, state_of}
 use Rattle.engine.specs.Ladder.{fit_number, set_up_number}
-use Rattle.epoch.proofs.Serves.{set_up_refused, set_up-done}
+use Rattle.epoch.proofs.Serves.{set_up-done}
 use Rattle.epoch.proofs.set_up.Goals as goal
 use Rattle.epoch.proofs.set_up.Goals.{After-fit_number-unfit}
 
@@ -16,13 +16,8 @@ lent c =
 number_is : (c : After-fit_number-unfit) → c.fit_number-unfit.result ≡ set_up_number c.args.s (lent c)
 number_is c = c.fit_number-unfit.ensures ∙ ap (fit_number c.args.s) c.lengths_of-lengths.ensures
 
-pub returns-then-unfit-ne0 : goal.returns-then-unfit-ne0
-returns-then-unfit-ne0 c =
-    let n = (goal.at.returns-then-unfit-ne0 c).After-fit_number-unfit in
-    set_up_refused c.args.s (lent n) _ (number_is n) c.if-unfit-ne0.true
-
 pub returns : goal.returns
 returns c =
     let n = (goal.at.returns c).After-fit_number-unfit in
-    set_up-done c.args.s (lent n) c.fit_number-unfit.result (number_is n) c.if-unfit-ne0.false _ _ _ _
+    set_up-done c.args.s (lent n) c.fit_number-unfit.result (number_is n) (omega arith) _ _ _ _
     c.clear_entries.ensures c.clear_entries-2.ensures c.reset.ensures.rows c.reset.ensures.counts

@@ -1,5 +1,5 @@
 -- Refused by its number, or the trackers reset.
-use Rattle.std.proofs.Common.{◌≡◌, ap, ◌∙◌}
+use Rattle.std.proofs.Common.{arith, ◌≡◌, ap, ◌∙◌}
 use Rattle.geometry.specs.declared.Lengths.{Lengths}
 use Rattle.engine.specs.State.{State, state_of}
 use Rattle.engine.specs.Ladder.{control_number, tick_number}
@@ -33,7 +33,7 @@ zero_below-next_spill-requires c =
 pub zero_below-next_acts-requires : goal.zero_below-next_acts-requires
 zero_below-next_acts-requires c =
     let n = (goal.at.zero_below-next_acts-requires c).After-control_number-number in
-    tick_banks c.args.s (lent n) _ (number_is n) c.if-number-ne0.false
+    omega (arith, tick_banks c.args.s (lent n) _ (number_is n) c.if-number-ne0.false)
 
 pub returns : goal.returns
 returns c =

@@ -14,7 +14,7 @@ loop-i-preserved-then-i-changed c =
 pub loop-i-preserved : goal.loop-i-preserved
 loop-i-preserved c =
     let p = c.requires in
-    marking_leave p.0 p.1 _ (omega arith) c.loop-i-test.true c.loop-i.invariant c.if-i-changed.false
+    marking_leave p.0 p.1 _ (omega arith) c.loop-i-test.true c.loop-i.invariant (omega arith)
 
 pub returns : goal.returns
 returns c = let p = c.requires in marking_all p.0 p.1 c.loop-i.invariant c.loop-i-test.false
