@@ -106,8 +106,6 @@ def main():
         if new != t:
             changed += 1
             open(p, "w", encoding="utf-8").write(new)
-    with open("/tmp/snake-names.txt", "w") as f:
-        f.writelines(f"{a} {b}\n" for a, b in sorted(turn.items()))
     print(f"{len(turn)} names, {changed} files")
 
 
