@@ -5,7 +5,7 @@ usage: python3 tools/snake_names.py [ROOT]
 
 - A word in lower camel case becomes snake case: `slotRowOf` -> `slot_row_of`, `length-rowBytes` -> `length-row_bytes`.
 - In the name of a lemma, words that together are the name of a function or a definition are joined as that name is
-  spelled: `set-up-zeros` -> `set_up-zeros`.
+  spelled: `set-up-kept` -> `set_up-kept`.
 - A dash stays where it joins the names of two functions, definitions or types: `length-row_bytes`. Elsewhere, and in the name
   of a field, it becomes `_`: `counts-long` -> `counts_long`, `set_up-served` -> `set_up_served`.
 Types, modules, names of src/ and exported names keep their spelling. Names that would fall together are printed, and left.
