@@ -37,7 +37,7 @@ fn skip_counts(counts: &[u32], from: usize, size: usize, value: u32) -> usize
 }
 
 // The lowest count that is the value; the number of counts where none is.
-#[tactic(auto, using(crate::proofs::Found::lowest_here, crate::proofs::Found::told_same, crate::proofs::Found::told_other, scan::proofs::Loops::skipped_one))]
+#[tactic(auto, using(crate::proofs::Found::one_by_one))]
 pub fn index_of_count(counts: &[u32], value: u32) -> usize
     ensures { result ≡ index_of value counts.now }
 {

@@ -1,1 +1,2 @@
 pub mod Stages
+pub mod Rules

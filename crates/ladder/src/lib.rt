@@ -15,7 +15,7 @@ use engine::Asked;
 use geometry::{Control, ForwardEntry, Lengths, ReverseEntry, Ring, Settings, Slot, VisibleRow};
 
 // Returns the number of the settings: 1 where one is outside its range, 2 where L is too large, else 0.
-#[tactic(auto, using(engine::proofs::Rungs::halts, engine::proofs::Rungs::goes_on, engine::proofs::Rungs::applies, engine::proofs::Rungs::goes_by), unfolding(engine::specs::Ladder::settings_number))]
+#[tactic(auto, using(crate::proofs::Rules::rungs), unfolding(engine::specs::Ladder::settings_number))]
 pub fn settings_number(s: Settings) -> u32
     ensures { result ≡ settings_number s }
 {
@@ -29,7 +29,7 @@ pub fn settings_number(s: Settings) -> u32
 }
 
 // Returns 1, 2 or 3 where the settings or a length are refused, else 0: the number of a set-up.
-#[tactic(auto, using(engine::proofs::Rungs::halts, engine::proofs::Rungs::goes_on, engine::proofs::Rungs::applies, engine::proofs::Rungs::goes_by), unfolding(engine::specs::Ladder::fit_number))]
+#[tactic(auto, using(crate::proofs::Rules::rungs), unfolding(engine::specs::Ladder::fit_number))]
 pub fn fit_number(s: Settings, lengths: Lengths) -> u32
     ensures { result ≡ fit_number s lengths }
 {
@@ -211,7 +211,7 @@ pub fn destination_unsound(s: Settings, d: Slot, forward: &[u16], reverse: &[u16
 }
 
 // Returns the first of 5, 6 and 7 (row's pointers) that applies, or 0.
-#[tactic(auto, using(engine::proofs::Rungs::halts, engine::proofs::Rungs::goes_on, engine::proofs::Rungs::applies, engine::proofs::Rungs::goes_by), unfolding(engine::specs::Ladder::row_number, engine::specs::Ladder::row_unsound))]
+#[tactic(auto, using(crate::proofs::Rules::rungs), unfolding(engine::specs::Ladder::row_number, engine::specs::Ladder::row_unsound))]
 pub fn row_number(s: Settings, asked: Asked, forward: &[u16], reverse: &[u16]) -> u32
     requires { Tabled s forward.now reverse.now }
     ensures { result ≡ row_number s (tables_in forward reverse) asked }

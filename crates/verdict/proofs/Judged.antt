@@ -133,3 +133,6 @@ module _ (S : Settings) (σ : State) (a : Asked) where
           → quarantine_number S (ring_of σ.control) σ.tables (skipped S σ r) ≡ access_number S σ a
       unfolding quarantine_number
       access_moves f = access_last f
+
+-- what `judge` answers
+pub ruleset judged = (no_room, unsound, sound)

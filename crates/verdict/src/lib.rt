@@ -68,7 +68,7 @@ fn destination(s: Settings, head: u32, over: u32) -> Slot
 
 // Judges 9 and the destination's 7 for a row to be quarantined where the head skips so many slots, and returns where it
 // goes where neither applies.
-#[tactic(auto, using(crate::proofs::Judged::no_room, crate::proofs::Judged::unsound, crate::proofs::Judged::sound), unfolding(engine::specs::Round::destination_from))]
+#[tactic(auto, using(crate::proofs::Judged::judged), unfolding(engine::specs::Round::destination_from))]
 pub fn judge(s: Settings, ring: Ring, over: u32, forward: &[u16], reverse: &[u16]) -> Verdict
     requires { Judgeable s ring over forward.now reverse.now }
     ensures { result ≡ quarantine_verdict s ring (tables_in forward reverse) over }

@@ -1,0 +1,4 @@
+-- What the searches take where a function answers a ladder: its first number, or the rest.
+use Rattle.engine.proofs.Rungs.{halts, goes_on, applies, goes_by}
+
+pub ruleset rungs = (halts, goes_on, applies, goes_by)
