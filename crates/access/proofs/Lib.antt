@@ -1,5 +1,3 @@
-pub mod Refuses
-pub mod Finds
-pub mod Takes
-pub mod Stages
+pub mod Judges
+pub mod Finishes
 pub mod Serves

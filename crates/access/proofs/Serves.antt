@@ -1,181 +1,138 @@
 -- Read and write as the code puts them together are the definitions of `Calls`. Assumes nothing.
-use Prim.Native.Nat.{ℕ, ◌+◌, ◌*◌, ◌<◌, ◌≤◌}
-use native.Mathlib.Omega.{arith}
+use Prim.Native.Nat.{ℕ, ◌+◌, ◌*◌, ◌≤◌}
 use mathlib.Core.Path.{◌≡◌, refl, ap, ◌∙◌}
-use mathlib.Core.Bool.{Bool, false}
+use mathlib.Core.Logic.{inl, inr}
 use mathlib.Core.List.{List, []}
-use lib.Dec.{eqb, ltb}
+use lib.Dec.{eqb}
 use lib.ListN.{length}
-use lib.Seq.{set-get_or}
-use borrow.Author.Tests.{eq-eqb, ne_eqb, eqb-true, ltb-false, not-false}
+use borrow.Author.Tests.{eq-eqb, eqb-true, ltb-false, not-false}
+use Rattle.std.specs.Prelude.{Ok, Err}
 use Rattle.geometry.specs.declared.Settings.{Settings}
-use Rattle.geometry.specs.Entry.{empty}
-use Rattle.banks.specs.Banks.{most_banks, with_bank}
-use Rattle.tracking.specs.Entry.{table_after}
+use Rattle.basics.proofs.Cases.{split}
 use Rattle.row_layout.specs.Bytes.{row_bytes, written}
 use Rattle.row_layout.proofs.Laws.{length-written}
 use Rattle.engine.specs.declared.Asked.{Asked}
-use Rattle.engine.specs.State.{Tables, State, Storage, ring_of, reverse_of}
-use Rattle.engine.specs.Steps.{place, destination, move_into, move, relocated}
-use Rattle.engine.specs.Ladder.{access_number, read_asked, write_asked}
-use Rattle.engine.specs.Calls.{Accessed, accessed, read, write}
-use Rattle.engine.proofs.Moves.{into_slot, into_row}
-use Rattle.figures.specs.Promises.{AccessPromise}
-use Rattle.verdict.specs.declared.Found.{Found}
-use Rattle.verdict.specs.declared.Verdict.{Verdict}
-use Rattle.access.specs.declared.Answered.{Answered}
-use Rattle.access.specs.Answers.{refusal_of, done_of}
-use Rattle.access.proofs.Refuses.{Stops}
-use Rattle.access.proofs.Finds.{Sought, bank_small, estimate_is, spill_then, rows_then, counts_then}
-use Rattle.access.proofs.Takes.{with_store, Taken, Going, span_in, place-in, store_long, place_inside}
+use Rattle.engine.specs.declared.Served.{Served}
+use Rattle.engine.specs.State.{State}
+use Rattle.engine.specs.Steps.{place, move, state_after}
+use Rattle.engine.specs.Ladder.{read_asked, write_asked, look_asked, access_number}
+use Rattle.engine.specs.Calls.{accessed, served, read, write}
+use Rattle.figures.specs.Outcome.{outcome_of}
+use Rattle.figures.specs.Promises.{AccessPromise, ReadPromise, WritePromise}
+use Rattle.access.specs.declared.Judged.{Judged}
+use Rattle.access.specs.Judging.{judged}
+use Rattle.access.proofs.Finishes.{Taken, taken, span_in, place-in, store_long, place_inside}
 
--- all that is lent after an access: the slices, and the control record with the numbers that the code gives
-abbrev pub left_by : State → List ℕ → Tables → List ℕ → List ℕ → Answered → State
-left_by σ store tables rows counts t =
-    record { store = store; tables = tables; rows = rows; counts = counts; control = with_bank σ.control t.ring t.bank }
-
--- what is promised of an access (a: what the definition gives; t: what the code gives)
-abbrev pub Serves : Accessed → State → Answered → List ℕ → Type 0
-Serves a left t given = (t.bank.index < most_banks) × AccessPromise a left t.outcome given
-
--- what following step 2 promises
-abbrev pub Followed : State → Found → List ℕ → List ℕ → Type 0
-Followed σ f rows counts =
-    (rows ≡ table_after f.update.entry f.update.estimate f.place.0 σ.rows)
-    × (counts ≡ table_after f.update.entry f.update.estimate f.update.estimate σ.counts)
-
--- what `stay` promises
-abbrev pub Stayed : State → Found → Answered → List ℕ → List ℕ → Type 0
-Stayed σ f t rows counts = (t ≡ done_of (ring_of σ.control) f empty empty) × Followed σ f rows counts
-
--- what `go` promises; after: the store before it, with the bytes; store, tables: what it leaves
-abbrev pub Gone : Settings → State → Found → Verdict → List ℕ → Answered → List ℕ → Tables → List ℕ → List ℕ → Type 0
-Gone S σ f v after t store tables rows counts =
-    let left : Storage = record { store = store; tables = tables; ring = t.ring } in
-    (t ≡ done_of t.ring f v.d.0 v.held.0)
-    × ((left ≡ relocated S f.row.0 f.place.0 (move_into v.d.0 v.held.0) (with_store σ after)) × Followed σ f rows counts)
+-- the memory with another store
+abbrev pub with_store : List ℕ → State → State
+with_store store σ =
+    record { store = store; tables = σ.tables; rows = σ.rows; counts = σ.counts; control = σ.control }
 
 -- ---- any access: `after` is the store with the bytes, `filled` what the buffer is filled with
 
-abbrev whole_of : Settings → State → Asked → List ℕ → List ℕ → List ℕ → Accessed
-whole_of S σ a after filled buffer = accessed S σ a.row (access_number S σ a) after filled buffer
+module _ (S : Settings) (σ : State) (a : Asked) (after filled buffer : List ℕ) where
+  refuses : {x : ℕ} → Err x ≡ judged S σ a → AccessPromise (accessed S σ a.row (access_number S σ a) after filled buffer) σ (outcome_of (Err x)) buffer
+  unfolding judged accessed
+  refuses {x} told =
+      elim (split (eqb (access_number S σ a) 0)) [
+        | inl z ↦ absurd (let there = rw z at told in cc)
+        | inr z ↦
+            let there = rw z at told in
+            let is : x ≡ access_number S σ a = cc in
+            rw (z, is) (refl, refl, refl)
+      ]
 
-module _ {S : Settings} {σ : State} {a : Asked} (after filled buffer : List ℕ) where
-  refused_is : {x : ℕ} {t : Answered} → t ≡ refusal_of σ.control x → Stops S σ a x
-      → Serves (whole_of S σ a after filled buffer) (left_by σ σ.store σ.tables σ.rows σ.counts t) t buffer
-  unfolding accessed
-  refused_is is R =
-      let no : eqb (access_number S σ a) 0 ≡ false = ne_eqb (access_number S σ a) 0 (λ z. R.some (R.is ∙ z)) in
-      rw is (
-        omega arith,
-        (
-          rw (no, set-get_or σ.control.spill 0 0, set-get_or σ.control.acts 0 0) refl,
-          rw (no, R.is) refl,
-          rw no refl,
-        ),
-      )
+  -- j: what is judged, and the store as long as before
+  module _ {j : Judged} (told : Ok j ≡ judged S σ a) (long : length after ≡ length σ.store) where
+    T : Taken S σ a j
+    T = taken S σ a j told
 
-  module _ {f : Found} where
-    stay_is : Taken S σ a f false → {t : Answered} {rows counts : List ℕ} → Stayed σ f t rows counts
-        → Serves (whole_of S σ a after filled buffer) (left_by σ after σ.tables rows counts t) t filled
+    row_is : j.found.row.0 ≡ a.row
+    row_is = ap (λ (x : Judged). x.found.row.0) T.is
+
+    asked_is : look_asked j.found.row.0 ≡ a
+    asked_is = rw (row_is, ← span_in T) refl
+
+    number_then : access_number S (with_store after σ) a ≡ 0
+    unfolding access_number
+    number_then = rw long T.number_0
+
+    -- what `finish` asks
+    ready : Ok j ≡ judged S (with_store after σ) (look_asked j.found.row.0)
+    unfolding judged
+    ready = rw (asked_is, number_then) (rw T.is refl)
+
+    -- what it leaves; given: what it answers
+    accepts : {given : Served} → given ≡ served S (with_store after σ) j.found.row.0
+        → {left : State} → left ≡ state_after S (with_store after σ) j.found.row.0 after
+        → AccessPromise (accessed S σ a.row (access_number S σ a) after filled buffer) left (outcome_of (Ok given)) filled
     unfolding accessed move
-    stay_is T stayed =
-        let P = T.sought.passed in
-        let yes = eq-eqb (access_number S σ a) 0 T.number_0 in
-        let is = rw T.sought.found at stayed in
-        rw is.0 (
-          bank_small P,
-          (
-            rw (is.1.0 ∙ rows_then P, is.1.1 ∙ counts_then P, yes, T.moved, spill_then P) refl,
-            rw (yes, T.moved, estimate_is P) refl,
-            rw yes refl,
-          ),
-        )
+    accepts answer state =
+        rw (answer, state, row_is, eq-eqb (access_number S σ a) 0 T.number_0) (refl, refl, refl)
 
-    go_is : {v : Verdict} → Going S σ a f v
-        → {t : Answered} {store : List ℕ} {tables : Tables} {rows counts : List ℕ} → Gone S σ f v after t store tables rows counts
-        → Serves (whole_of S σ a after filled buffer) (left_by σ store tables rows counts t) t filled
-    unfolding accessed move
-    go_is G {t} {store} {tables} gone =
-        let T = G.taken in
-        let P = T.sought.passed in
-        let yes = eq-eqb (access_number S σ a) 0 T.number_0 in
-        let is = rw (G.sent_there, T.sought.found) at gone in
-        let d : ℕ = destination S σ a.row in
-        let held : ℕ = reverse_of σ d in
-        let es : store ≡ _ = ap (λ (l : Storage). l.store) is.1.0 in
-        let et : tables ≡ _ = ap (λ (l : Storage). l.tables) is.1.0 in
-        let en : t.ring ≡ _ = ap (λ (l : Storage). l.ring) is.1.0 in
-        rw is.0 (
-          bank_small P,
-          (
-            rw (es, et, en, is.1.1.0 ∙ rows_then P, is.1.1.1 ∙ counts_then P, yes, T.moved, spill_then P) refl,
-            rw (yes, T.moved, estimate_is P, into_slot d held, into_row d held) refl,
-            rw yes refl,
-          ),
-        )
+-- ---- read
 
--- ---- read; count: the length of the buffer
+module _ (S : Settings) (σ : State) (r : ℕ) (buffer : List ℕ) where
+  abbrev reading : Asked
+  reading = read_asked S r (length buffer)
 
--- what `read_row` asks
-pub readable : {S : Settings} {σ : State} {r count : ℕ} {f : Found} {due : Bool} → Taken S σ (read_asked S r count) f due
-    → (count ≡ S.w) × (f.place.0 * S.w + S.w ≤ length σ.store)
-readable {S} {count = count} T = (eqb-true count S.w (not-false (eqb count S.w) (span_in T)), place_inside T)
-
-module _ {S : Settings} {σ : State} {r : ℕ} (buffer : List ℕ) where
-  pub read-refused : {x : ℕ} {t : Answered} → t ≡ refusal_of σ.control x → Stops S σ (read_asked S r (length buffer)) x
-      → Serves (read S σ r buffer) (left_by σ σ.store σ.tables σ.rows σ.counts t) t buffer
+  pub read-refused : {x : ℕ} → Err x ≡ judged S σ reading → ReadPromise S σ r buffer σ (outcome_of (Err x)) buffer
   unfolding read
-  read-refused is R = refused_is σ.store _ buffer is R
+  read-refused told = refuses S σ reading σ.store _ buffer told
 
-  -- filled: the buffer, as the code fills it from the place that it has
-  module _ {f : Found} {filled : List ℕ} (bytes : filled ≡ row_bytes S.w σ.store f.place.0) where
-    filled_is : Sought S σ (read_asked S r (length buffer)) f → filled ≡ row_bytes S.w σ.store (place S σ r)
-    filled_is K = bytes ∙ ap (λ (x : Found). row_bytes S.w σ.store x.place.0) K.found
+  module _ {j : Judged} (told : Ok j ≡ judged S σ reading) where
+    pub readable : (length buffer ≡ S.w) × (j.found.place.0 * S.w + S.w ≤ length σ.store)
+    readable =
+        let T = taken S σ reading j told in
+        (eqb-true (length buffer) S.w (not-false (eqb (length buffer) S.w) (span_in T)), place_inside T)
 
-    pub read_stays : Taken S σ (read_asked S r (length buffer)) f false
-        → {t : Answered} {rows counts : List ℕ} → Stayed σ f t rows counts
-        → Serves (read S σ r buffer) (left_by σ σ.store σ.tables rows counts t) t filled
+    pub read-ready : Ok j ≡ judged S σ (look_asked j.found.row.0)
+    read-ready = ready S σ reading σ.store [] [] told refl
+
+    pub read_done : {filled : List ℕ} → filled ≡ row_bytes S.w σ.store j.found.place.0
+        → {given : Served} → given ≡ served S σ j.found.row.0 → {left : State} → left ≡ state_after S σ j.found.row.0 σ.store
+        → ReadPromise S σ r buffer left (outcome_of (Ok given)) filled
     unfolding read
-    read_stays T stayed = rw (← filled_is T.sought) (stay_is σ.store filled buffer T stayed)
+    read_done {filled} bytes answer state =
+        let T = taken S σ reading j told in
+        let there : filled ≡ row_bytes S.w σ.store (place S σ r) =
+        bytes ∙ ap (λ (x : Judged). row_bytes S.w σ.store x.found.place.0) T.is in
+        rw (← there) (accepts S σ reading σ.store filled buffer told refl answer state)
 
-    pub read_goes : {v : Verdict} → Going S σ (read_asked S r (length buffer)) f v
-        → {t : Answered} {store : List ℕ} {tables : Tables} {rows counts : List ℕ} → Gone S σ f v σ.store t store tables rows counts
-        → Serves (read S σ r buffer) (left_by σ store tables rows counts t) t filled
-    unfolding read
-    read_goes G gone = rw (← filled_is G.taken.sought) (go_is σ.store filled buffer G gone)
+-- ---- write
 
--- ---- write; end: the column after the bytes
+module _ (S : Settings) (σ : State) (r column : ℕ) (bytes : List ℕ) where
+  abbrev writing : Asked
+  writing = write_asked S r column (length bytes)
 
--- what `write_row` asks
-pub writable : {S : Settings} {σ : State} {r end : ℕ} {f : Found} {due : Bool} → Taken S σ (record { row = r; off = ltb S.w end }) f due
-    → (end ≤ S.w) × (f.place.0 * S.w + S.w ≤ length σ.store)
-writable {S} {end = end} T = (ltb-false S.w end (span_in T), place_inside T)
-
-module _ {S : Settings} {σ : State} {r : ℕ} (column : ℕ) (bytes : List ℕ) where
-  pub write-refused : {x : ℕ} {t : Answered} → t ≡ refusal_of σ.control x → Stops S σ (write_asked S r column (length bytes)) x
-      → Serves (write S σ r column bytes) (left_by σ σ.store σ.tables σ.rows σ.counts t) t []
+  pub write-refused : {x : ℕ} → Err x ≡ judged S σ writing → WritePromise S σ r column bytes σ (outcome_of (Err x))
   unfolding write
-  write-refused is R = refused_is _ [] [] is R
+  write-refused told = refuses S σ writing _ [] [] told
 
-  -- after: the store, as the code writes to the place that it has
-  module _ {f : Found} {after : List ℕ} (put : after ≡ written S.w σ.store f.place.0 column bytes) where
-    written_is : Sought S σ (write_asked S r column (length bytes)) f → after ≡ written S.w σ.store (place S σ r) column bytes
-    written_is K = put ∙ ap (λ (x : Found). written S.w σ.store x.place.0 column bytes) K.found
+  module _ {j : Judged} (told : Ok j ≡ judged S σ writing) where
+    pub writable : (column + length bytes ≤ S.w) × (j.found.place.0 * S.w + S.w ≤ length σ.store)
+    writable =
+        let T = taken S σ writing j told in
+        (ltb-false S.w (column + length bytes) (span_in T), place_inside T)
 
-    pub written_long : {due : Bool} → Taken S σ (write_asked S r column (length bytes)) f due → length after ≡ length σ.store
-    written_long T =
-        rw (written_is T.sought)
-        (length-written S.w (S.n + S.q) σ.store (place S σ r) column bytes (store_long T) (place-in T) (writable T).0)
+    -- after: the store, as the code writes to the place that it has
+    module _ {after : List ℕ} (put : after ≡ written S.w σ.store j.found.place.0 column bytes) where
+      written_is : after ≡ written S.w σ.store (place S σ r) column bytes
+      written_is =
+          let T = taken S σ writing j told in
+          put ∙ ap (λ (x : Judged). written S.w σ.store x.found.place.0 column bytes) T.is
 
-    pub write_stays : Taken S σ (write_asked S r column (length bytes)) f false
-        → {t : Answered} {rows counts : List ℕ} → Stayed σ f t rows counts
-        → Serves (write S σ r column bytes) (left_by σ after σ.tables rows counts t) t []
-    unfolding write
-    write_stays T stayed = rw (← written_is T.sought) (stay_is after [] [] T stayed)
+      long : length after ≡ length σ.store
+      long =
+          let T = taken S σ writing j told in
+          ap (λ (x : List ℕ). length x) written_is
+          ∙ length-written S.w (S.n + S.q) σ.store (place S σ r) column bytes (store_long T) (place-in T) writable.0
 
-    pub write_goes : {v : Verdict} → Going S σ (write_asked S r column (length bytes)) f v
-        → {t : Answered} {store : List ℕ} {tables : Tables} {rows counts : List ℕ} → Gone S σ f v after t store tables rows counts
-        → Serves (write S σ r column bytes) (left_by σ store tables rows counts t) t []
-    unfolding write
-    write_goes G gone = rw (← written_is G.taken.sought) (go_is after [] [] G gone)
+      pub write-ready : Ok j ≡ judged S (with_store after σ) (look_asked j.found.row.0)
+      write-ready = ready S σ writing after [] [] told long
+
+      pub write_done : {given : Served} → given ≡ served S (with_store after σ) j.found.row.0
+          → {left : State} → left ≡ state_after S (with_store after σ) j.found.row.0 after
+          → WritePromise S σ r column bytes left (outcome_of (Ok given))
+      unfolding write
+      write_done answer state = rw (← written_is) (accepts S σ writing after [] [] told long answer state)

@@ -1,123 +1,152 @@
 // Read and write. Each answers for any settings, arguments and lent memory; where it refuses, nothing lent is written. The
-// control record comes by value, and what an access changes in it is given back as numbers: the ring, and one bank with its
-// numbers; `record_after` puts them into the record. Both pass the refusals by the same calls; what comes before the bytes
-// as one function of both was slower.
+// control record comes by value, and what an accepted access changes in it is given back as numbers: the ring, and one bank
+// with its numbers; `record_after` puts them into the record. Both judge the access, then serve the bytes, then finish it:
+// they stay two, as their parameters and promises differ. The lent slices stay parameters, as the C functions take them.
 #![tactic(auto)]
 
-ghost use Rattle.std.specs.Prelude.{◌≡◌, ◌<◌};
+ghost use Rattle.std.specs.Prelude.{◌≡◌, ◌<◌, Ok, IfOk};
+ghost use Rattle.refusals.specs.Refusals.{numbered};
 ghost use Rattle.banks.specs.Banks.{most_banks, with_bank};
-ghost use Rattle.geometry.specs.Entry.{empty};
-ghost use Rattle.tracking.specs.Entry.{table_after};
-ghost use Rattle.engine.specs.State.{state_of, storage_of};
-ghost use Rattle.engine.specs.Steps.{move_into, relocated};
-ghost use Rattle.settle.specs.Settling.{Movable};
+ghost use Rattle.engine.specs.State.{state_of, ring_of};
+ghost use Rattle.engine.specs.Steps.{state_after};
+ghost use Rattle.engine.specs.Ladder.{look_asked};
+ghost use Rattle.engine.specs.Calls.{served};
+ghost use Rattle.figures.specs.Outcome.{outcome_of};
 ghost use Rattle.figures.specs.Promises.{ReadPromise, WritePromise};
-ghost use Rattle.access.specs.Answers.{refusal_of, done_of, Servable};
+ghost use Rattle.access.specs.Answers.{reply_of, control_after};
+ghost use Rattle.access.specs.Judging.{judged, done_of};
 
 use banks::Bank;
-use figures::Outcome;
+use engine::{Asked, Move, Served};
 use geometry::{Control, Ring, Settings, VisibleRow};
-use verdict::{Found, Verdict};
+use refusals::Refusal;
+use verdict::{Destination, Found};
 
-// The answer of an access in numbers, and what it leaves in the control record: the ring, and a bank's numbers.
+// What an accepted access answers, and what it leaves in the control record: the ring, and a bank's numbers.
 #[derive(Clone, Copy)]
-pub struct Answered {
-    pub outcome: Outcome,
+pub struct Accepted {
+    pub served: Served,
     pub ring: Ring,
     pub bank: Bank,
 }
 
-// Returns the answer of a refusal. What it gives for the control record stands there already: `head`, `passed`, and the
-// numbers of the first bank.
-fn refused(control: Control, number: u32) -> Answered
-    ensures { result ≡ refusal_of control number }
+// What is found and decided of an access that is accepted, before the bytes.
+#[derive(Clone, Copy)]
+struct Judged {
+    found: Found,
+    // where the row goes, if it is quarantined
+    goes: Option<Destination>,
+}
+
+// Returns where the quarantine stands.
+fn ring_of(control: Control) -> Ring
+    ensures { result ≡ ring_of control }
 {
-    Answered {
-        outcome: Outcome {
-            number: number,
-            slot: 65535,
-            row: 65535,
-            estimate: 0,
-            place: 0,
-        },
-        ring: Ring {
-            head: control.head,
-            passed: control.passed,
-        },
-        bank: Bank {
-            index: 0,
-            spill: control.spill[0],
-            acts: control.acts[0],
-        },
+    Ring {
+        head: control.head,
+        passed: control.passed,
     }
 }
 
-// Returns the answer of an accepted access: the bank's `spill` is as step 2 leaves it, and its `acts` has risen by 1 (step
-// 3). slot: the slot moved to, row: the row sent home, 65535 for none.
-fn done(ring: Ring, f: Found, slot: u32, row: u32) -> Answered
-    requires { (f.bank.spill < 65536) × (f.bank.acts < 1360000) }
-    ensures { result ≡ done_of ring f slot row }
+// Judges an access: it is refused by the first row of the table of refusals that applies, if one does.
+#[inline(always)]
+fn judge(
+    control: Control,
+    s: Settings,
+    asked: Asked,
+    store: &[u8],
+    forward: &[u16],
+    reverse: &[u16],
+    rows: &[u16],
+    counts: &[u32],
+) -> Result<Judged, Refusal>
+    ensures { numbered result
+        ≡ judged s (state_of store.now forward.now reverse.now rows.now counts.now control) asked }
 {
-    Answered {
-        outcome: Outcome {
-            number: 0,
-            slot: slot,
-            row: row,
-            estimate: f.update.estimate,
-            place: f.place.0,
+    let lengths = geometry::lengths_of(store, forward, reverse, rows, counts);
+    ladder::check_control(s, lengths, control, counts)?;
+    ladder::check_row(s, asked, forward, reverse)?;
+    let row = VisibleRow(asked.row as u16);
+    let entry = ladder::forward_of(forward, asked.row);
+    let place = geometry::place(s, row, entry);
+    let bank = banks::bank_at(s, control, place);
+    if verdict::is_full(s, bank.acts) {
+        return Err(Refusal::Epoch);
+    }
+    let entry_changed = tracker::find(place, s.k as usize, bank, rows, counts);
+    let update = tracker::update_of(entry_changed, counts);
+    let found = Found {
+        row,
+        entry,
+        place,
+        bank,
+        update,
+    };
+    match update {
+        Some(u) if verdict::is_due(s, u.estimate) => {
+            let ring = ring_of(control);
+            let d = verdict::decide(s, ring, entry, u.entry, forward, reverse, rows, counts)?;
+            Ok(Judged {
+                found,
+                goes: Some(d),
+            })
+        }
+        _ => Ok(Judged { found, goes: None }),
+    }
+}
+
+// Returns what an accepted access gives back: the bank's `spill` is as step 2 leaves it, and its `acts` has risen by 1 (step
+// 3).
+fn done(f: Found, ring: Ring, moved: Move) -> Accepted
+    requires { (f.bank.spill < 65536) × (f.bank.acts < 1360000) }
+    ensures { result ≡ done_of f ring moved }
+{
+    Accepted {
+        served: Served {
+            place: f.place,
+            estimate: tracker::estimate_of(f.update),
+            moved,
         },
-        ring: ring,
+        ring,
         bank: Bank {
             index: f.bank.index,
-            spill: tracker::spill_after(f.update.estimate, f.bank.spill),
+            spill: tracker::spill_after(f.update, f.bank.spill),
             acts: f.bank.acts + 1,
         },
     }
 }
 
-// What comes after the bytes where the row stays: step 2 is followed.
-fn stay(ring: Ring, f: Found, rows: &mut [u16], counts: &mut [u32]) -> Answered
-    requires { Servable f rows.old counts.old }
-    ensures answer { result ≡ done_of ring f empty empty }
-    ensures rows { let u = f.update in
-        rows.new ≡ table_after u.entry u.estimate f.place.0 rows.old }
-    ensures counts { let u = f.update in
-        counts.new ≡ table_after u.entry u.estimate u.estimate counts.old }
-{
-    let update = f.update;
-    let place = f.place;
-    tracker::follow(update, place, rows, counts);
-    done(ring, f, 65535, 65535)
-}
-
-// What comes after the bytes where the row is quarantined: step 2 is followed, and the row goes to the slot of the verdict.
-fn go(
+// What comes after the bytes: step 2 is followed, and the row goes to its destination, if it is quarantined.
+#[inline(always)]
+fn finish(
+    control: Control,
     s: Settings,
-    ring: Ring,
-    f: Found,
-    v: Verdict,
+    j: Judged,
     store: &mut [u8],
     forward: &mut [u16],
     reverse: &mut [u16],
     rows: &mut [u16],
     counts: &mut [u32],
-) -> Answered
-    requires servable { Servable f rows.old counts.old }
-    requires movable { Movable s f v (storage_of store.old forward.old reverse.old ring) }
-    ensures answer { result ≡ done_of result.ring f v.d.0 v.held.0 }
-    ensures storage { let move = move_into v.d.0 v.held.0 in
-        let before = storage_of store.old forward.old reverse.old ring in
-        storage_of store.new forward.new reverse.new result.ring ≡ relocated s f.row.0 f.place.0 move before }
-    ensures rows { let u = f.update in
-        rows.new ≡ table_after u.entry u.estimate f.place.0 rows.old }
-    ensures counts { let u = f.update in
-        counts.new ≡ table_after u.entry u.estimate u.estimate counts.old }
+) -> Accepted
+    requires { let before = state_of store.old forward.old reverse.old rows.old counts.old control in
+        Ok j ≡ judged s before (look_asked j.found.row.0) }
+    ensures bank { result.bank.index < most_banks }
+    ensures served { let before = state_of store.old forward.old reverse.old rows.old counts.old control in
+        result.served ≡ served s before j.found.row.0 }
+    ensures state { let before = state_of store.old forward.old reverse.old rows.old counts.old control in
+        let control_after = with_bank control result.ring result.bank in
+        state_of store.new forward.new reverse.new rows.new counts.new control_after
+        ≡ state_after s before j.found.row.0 store.old }
 {
-    let update = f.update;
-    let place = f.place;
-    tracker::follow(update, place, rows, counts);
-    let next = settle::relocate(s, ring, f, v, store, forward, reverse);
-    done(next, f, v.d.0 as u32, v.held.0 as u32)
+    let f = j.found;
+    tracker::follow(f.update, f.place, rows, counts);
+    match j.goes {
+        None => done(f, ring_of(control), Move::Stayed),
+        Some(d) => {
+            let ring = settle::relocate(s, ring_of(control), f, d, store, forward, reverse);
+            done(f, ring, Move::from(d))
+        }
+    }
 }
 
 // Read: the row's bytes go into the buffer where it is accepted.
@@ -131,58 +160,17 @@ pub fn read(
     reverse: &mut [u16],
     rows: &mut [u16],
     counts: &mut [u32],
-) -> Answered
-    ensures bank { result.bank.index < most_banks }
+) -> Result<Accepted, Refusal>
+    ensures bank { IfOk result (λ a. a.bank.index < most_banks) }
     ensures promise { let before = state_of store.old forward.old reverse.old rows.old counts.old control in
-        let control_after = with_bank control result.ring result.bank in
+        let control_after = control_after control result in
         let after = state_of store.new forward.new reverse.new rows.new counts.new control_after in
-        ReadPromise s before row buffer.old after result.outcome buffer.new }
+        ReadPromise s before row buffer.old after (outcome_of (reply_of result)) buffer.new }
 {
-    let ring = Ring {
-        head: control.head,
-        passed: control.passed,
-    };
-    let lengths = geometry::lengths_of(store, forward, reverse, rows, counts);
-    let unfit = ladder::fit_number(s, lengths);
-    if unfit != 0 {
-        return refused(control, unfit);
-    }
-    let first = ladder::first_unsound(s, ring, control.spill[0], control.acts[0], counts);
-    if first | ladder::others_unsound(s, control, counts) {
-        return refused(control, engine::CONTROL);
-    }
     let asked = ladder::read_asked(s, row, buffer.len());
-    let number = ladder::row_number(s, asked, forward, reverse);
-    if number != 0 {
-        return refused(control, number);
-    }
-    let visible = VisibleRow(row as u16);
-    let entry = ladder::forward_of(forward, row);
-    let place = geometry::place(s, visible, entry);
-    let bank = banks::bank_at(s, control, place);
-    if verdict::is_full(s, bank.acts) {
-        return refused(control, engine::EPOCH);
-    }
-    let k = s.k as usize;
-    let update = tracker::update_of(tracker::find(place, k, bank, rows, counts), k, bank, counts);
-    let f = Found {
-        row: visible,
-        entry: entry,
-        place: place,
-        bank: bank,
-        update: update,
-    };
-    if verdict::is_due(s, update.estimate) {
-        let v = verdict::decide(s, ring, f, forward, reverse, rows, counts);
-        let last = v.number;
-        if last != 0 {
-            return refused(control, last);
-        }
-        row_bytes::read_row(store, s.w as usize, place, buffer);
-        return go(s, ring, f, v, store, forward, reverse, rows, counts);
-    }
-    row_bytes::read_row(store, s.w as usize, place, buffer);
-    stay(ring, f, rows, counts)
+    let j = judge(control, s, asked, store, forward, reverse, rows, counts)?;
+    row_bytes::read_row(store, s.w as usize, j.found.place, buffer);
+    Ok(finish(control, s, j, store, forward, reverse, rows, counts))
 }
 
 // Write: the bytes go into the row from a column on where it is accepted.
@@ -197,66 +185,23 @@ pub fn write(
     reverse: &mut [u16],
     rows: &mut [u16],
     counts: &mut [u32],
-) -> Answered
-    ensures bank { result.bank.index < most_banks }
+) -> Result<Accepted, Refusal>
+    ensures bank { IfOk result (λ a. a.bank.index < most_banks) }
     ensures promise { let before = state_of store.old forward.old reverse.old rows.old counts.old control in
-        let control_after = with_bank control result.ring result.bank in
+        let control_after = control_after control result in
         let after = state_of store.new forward.new reverse.new rows.new counts.new control_after in
-        WritePromise s before row column bytes.now after result.outcome }
+        WritePromise s before row column bytes.now after (outcome_of (reply_of result)) }
 {
-    let ring = Ring {
-        head: control.head,
-        passed: control.passed,
-    };
-    let lengths = geometry::lengths_of(store, forward, reverse, rows, counts);
-    let unfit = ladder::fit_number(s, lengths);
-    if unfit != 0 {
-        return refused(control, unfit);
-    }
-    let first = ladder::first_unsound(s, ring, control.spill[0], control.acts[0], counts);
-    if first | ladder::others_unsound(s, control, counts) {
-        return refused(control, engine::CONTROL);
-    }
     let asked = ladder::write_asked(s, row, column, bytes.len());
-    let number = ladder::row_number(s, asked, forward, reverse);
-    if number != 0 {
-        return refused(control, number);
-    }
-    let visible = VisibleRow(row as u16);
-    let entry = ladder::forward_of(forward, row);
-    let place = geometry::place(s, visible, entry);
-    let bank = banks::bank_at(s, control, place);
-    if verdict::is_full(s, bank.acts) {
-        return refused(control, engine::EPOCH);
-    }
-    let k = s.k as usize;
-    let update = tracker::update_of(tracker::find(place, k, bank, rows, counts), k, bank, counts);
-    let f = Found {
-        row: visible,
-        entry: entry,
-        place: place,
-        bank: bank,
-        update: update,
-    };
-    if verdict::is_due(s, update.estimate) {
-        let v = verdict::decide(s, ring, f, forward, reverse, rows, counts);
-        let last = v.number;
-        if last != 0 {
-            return refused(control, last);
-        }
-        row_bytes::write_row(store, s.w as usize, place, column, bytes);
-        return go(s, ring, f, v, store, forward, reverse, rows, counts);
-    }
-    row_bytes::write_row(store, s.w as usize, place, column, bytes);
-    stay(ring, f, rows, counts)
+    let j = judge(control, s, asked, store, forward, reverse, rows, counts)?;
+    row_bytes::write_row(store, s.w as usize, j.found.place, column, bytes);
+    Ok(finish(control, s, j, store, forward, reverse, rows, counts))
 }
 
-// Returns the control record after an access, from the one before it and what the access gave back.
-pub fn record_after(control: Control, t: Answered) -> Control
-    requires { t.bank.index < most_banks }
-    ensures { result ≡ with_bank control t.ring t.bank }
+// Returns the control record after an accepted access, from the one before it and what the access gave back.
+pub fn record_after(control: Control, a: Accepted) -> Control
+    requires { a.bank.index < most_banks }
+    ensures { result ≡ with_bank control a.ring a.bank }
 {
-    let ring = t.ring;
-    let bank = t.bank;
-    banks::with_bank(control, ring, bank)
+    banks::with_bank(control, a.ring, a.bank)
 }

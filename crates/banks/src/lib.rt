@@ -31,29 +31,29 @@ pub fn bank_of(s: Settings, row: PhysicalRow) -> usize
 }
 
 // Returns a bank's number. The first two have an index that the compiler knows, so that it needs no copy of the others for
-// them: an access with one bank pays for nothing else.
+// them: an access with one bank pays for nothing else. (The copy stands in the last arm, or it is made for every bank: by
+// up to 5 ns of 30 that step 2 takes at two banks of 16 entries.)
 fn number_of(numbers: [u32; 16], bank: usize) -> u32
     requires { bank < most_banks }
     ensures { result ≡ get_or numbers bank 0 }
 {
-    if bank == 0 {
-        return numbers[0];
+    match bank {
+        0 => numbers[0],
+        1 => numbers[1],
+        _ => {
+            let all = numbers;
+            all[bank]
+        }
     }
-    if bank == 1 {
-        return numbers[1];
-    }
-    let all = numbers;
-    all[bank]
 }
 
 // Returns the numbers with another one of a bank.
-fn with_number(numbers: [u32; 16], bank: usize, number: u32) -> [u32; 16]
+fn with_number(mut numbers: [u32; 16], bank: usize, number: u32) -> [u32; 16]
     requires { bank < most_banks }
     ensures { result ≡ set numbers bank number }
 {
-    let mut next = numbers;
-    next[bank] = number;
-    next
+    numbers[bank] = number;
+    numbers
 }
 
 // Returns the bank of a physical row, with its numbers.
@@ -62,13 +62,11 @@ pub fn bank_at(s: Settings, control: Control, row: PhysicalRow) -> Bank
     requires { (1 ≤ s.b) × (s.b ≤ most_banks) × (row.0 < 65536) }
     ensures { result ≡ bank_with control (bank_of s row.0) }
 {
-    let spill = control.spill;
-    let acts = control.acts;
     let index = bank_of(s, row);
     Bank {
-        index: index,
-        spill: number_of(spill, index),
-        acts: number_of(acts, index),
+        index,
+        spill: number_of(control.spill, index),
+        acts: number_of(control.acts, index),
     }
 }
 
@@ -77,12 +75,10 @@ pub fn with_bank(control: Control, ring: Ring, bank: Bank) -> Control
     requires { bank.index < most_banks }
     ensures { result ≡ with_bank control ring bank }
 {
-    let all_spill = control.spill;
-    let all_acts = control.acts;
     Control {
         head: ring.head,
         passed: ring.passed,
-        spill: with_number(all_spill, bank.index, bank.spill),
-        acts: with_number(all_acts, bank.index, bank.acts),
+        spill: with_number(control.spill, bank.index, bank.spill),
+        acts: with_number(control.acts, bank.index, bank.acts),
     }
 }

@@ -1,203 +1,259 @@
 // Each call of the engine, made on a memory. No other file calls the engine.
-ghost use Rattle.std.specs.Prelude.{◌<◌};
+ghost use Rattle.std.specs.Prelude.{◌<◌, IfOk};
 ghost use Rattle.banks.specs.Banks.{most_banks};
-ghost use Rattle.cases.specs.Sized.{Sized};
 
-use crate::memory::Memory;
-use crate::script::Numbers;
-use crate::{memory, script};
-use access::Answered;
+use crate::memory::{MARK, Memory};
+use access::Accepted;
 use figures::{Outcome, Sum};
 use geometry::{Control, Settings};
+use refusals::Refusal;
 use sizing::{RefreshTimes, SizeTimes};
+use std::alloc::{AllocError, Global};
 
-// What a call answers, in numbers: number, place, slot moved to, row sent home (65535 for none), estimate, and the
-// length of inspect's part. And the memory after it.
-#[derive(Clone, Copy)]
-pub struct Step {
-    pub answer: [u64; 6],
-    pub memory: Memory,
+// The five calls, in the order of `from`.
+#[derive(Clone, Copy, Debug, PartialEq, Eq, PartialOrd, Ord)]
+pub enum Kind {
+    SetUp,
+    Tick,
+    Inspect,
+    Read,
+    Write,
 }
 
-// The numbers of a set-up, a tick or an inspect, and of any call that is refused.
-pub fn numbered(number: u64, length: u64) -> [u64; 6] {
-    [number, 0, 65535, 65535, 0, length]
+impl Kind {
+    pub const ALL: [Kind; 5] = [
+        Kind::SetUp,
+        Kind::Tick,
+        Kind::Inspect,
+        Kind::Read,
+        Kind::Write,
+    ];
 }
 
-// The numbers of a read or a write.
-fn placed(o: Outcome) -> [u64; 6] {
-    [
-        o.number as u64,
-        o.place,
-        o.slot as u64,
-        o.row as u64,
-        o.estimate as u64,
-        0,
-    ]
+// One of them, with what it is told.
+#[derive(Clone, Copy, Debug)]
+pub enum Call<'a> {
+    SetUp,
+    Tick,
+    Inspect {
+        row: u32,
+    },
+    Read {
+        row: u32,
+    },
+    Write {
+        row: u32,
+        column: usize,
+        bytes: &'a [u8],
+    },
 }
 
-// The answer of a call on a memory, and the memory with the control record that it left.
-fn made(m: Memory, answer: [u64; 6], control: Control) -> Step {
-    let mut after = m;
-    after.control = control;
-    Step {
-        answer: answer,
-        memory: after,
-    }
+// What a call answers, in numbers.
+#[derive(Clone, Copy, Debug, PartialEq, Eq)]
+pub struct Answer {
+    pub number: u64,
+    pub place: u64,
+    // the slot moved to, and the row sent home, 65535 for none
+    pub slot: u64,
+    pub row: u64,
+    pub estimate: u64,
+    // of inspect's part
+    pub length: u64,
 }
 
-// The bytes of a slice, as far as there is room.
-fn bytes_of(part: &[u8]) -> [u8; 256] {
-    let mut a = [0u8; 256];
-    let mut i: usize = 0;
-    while i < part.len() {
-        if 256 <= i {
-            return a;
+impl From<Outcome> for Answer {
+    fn from(outcome: Outcome) -> Answer {
+        Answer {
+            number: u64::from(outcome.number),
+            place: outcome.place,
+            slot: u64::from(outcome.slot),
+            row: u64::from(outcome.row),
+            estimate: u64::from(outcome.estimate),
+            length: 0,
         }
-        a[i] = part[i];
-        i += 1;
     }
-    a
 }
 
-// A read or a write.
-fn served(m: Memory, done: Answered) -> Step
-    requires { done.bank.index < most_banks }
+impl Answer {
+    // The answer of a call that gives a number alone, or that is refused.
+    pub fn of_number(number: u64) -> Answer {
+        Answer {
+            number,
+            place: 0,
+            slot: u64::from(MARK),
+            row: u64::from(MARK),
+            estimate: 0,
+            length: 0,
+        }
+    }
+
+    // The answer of a call that is refused.
+    fn of_refusal(refusal: Refusal) -> Answer {
+        Answer::of_number(u64::from(refusal.number()))
+    }
+
+    // The answer of a sizing sum.
+    fn of_sum(sum: Sum) -> Answer {
+        Answer {
+            place: sum.value,
+            ..Answer::of_number(u64::from(sum.number))
+        }
+    }
+
+    // The figures, in the order in which they are printed.
+    pub fn figures(self) -> [u64; 6] {
+        [
+            self.number,
+            self.place,
+            self.slot,
+            self.row,
+            self.estimate,
+            self.length,
+        ]
+    }
+}
+
+// The answer of a set-up or a tick. The memory gets the control record that it leaves.
+fn numbered(memory: &mut Memory, done: Result<Control, Refusal>) -> Answer {
+    match done {
+        Ok(control) => {
+            memory.control = control;
+            Answer::of_number(0)
+        }
+        Err(refusal) => Answer::of_refusal(refusal),
+    }
+}
+
+// The answer of a read or a write. The memory gets what it leaves in the control record.
+fn served(memory: &mut Memory, done: Result<Accepted, Refusal>) -> Answer
+    requires { IfOk done (λ accepted. accepted.bank.index < most_banks) }
 {
-    let outcome = done.outcome;
-    let control = m.control;
-    made(m, placed(outcome), access::record_after(control, done))
-}
-
-// An inspect, by both of its calls. What it shows is a part of the memory after it.
-fn shown(m: Memory, number: u32, part: &[u8]) -> Step {
-    let mut after = m;
-    after.bytes = bytes_of(part);
-    after.lengths[memory::BYTES] = part.len();
-    Step {
-        answer: numbered(number as u64, part.len() as u64),
-        memory: after,
+    match done {
+        Ok(accepted) => {
+            memory.control = access::record_after(memory.control, accepted);
+            Answer::from(Outcome::from(Ok(accepted.served)))
+        }
+        Err(refusal) => Answer::from(Outcome::from(Err(refusal))),
     }
 }
 
-// One of the five calls, by its verb, on what is lent of a memory. The memory of the step lacks what it writes there.
-fn on_lent(
-    m: Memory,
-    verb: usize,
-    row: u32,
-    column: usize,
-    bytes: &[u8],
-    buffer: &mut [u8],
-    store: &mut [u8],
-    forward: &mut [u16],
-    reverse: &mut [u16],
-    rows: &mut [u16],
-    counts: &mut [u32],
-) -> Step {
-    let control = m.control;
-    let s = m.settings;
-    if verb == script::SET_UP {
-        let done = epoch::set_up(control, s, store, forward, reverse, rows, counts);
-        return made(m, numbered(done.number as u64, 0), done.control);
-    }
-    if verb == script::TICK {
-        let done = epoch::tick(control, s, store, forward, reverse, rows, counts);
-        return made(m, numbered(done.number as u64, 0), done.control);
-    }
-    if verb == script::INSPECT {
-        let number = look::inspect_number(control, s, row, store, forward, reverse, rows, counts);
-        let part = look::inspect_part(control, s, row, store, forward, reverse, rows, counts);
-        return shown(m, number, part);
-    }
-    if verb == script::READ {
-        let done = access::read(
-            control, s, row, buffer, store, forward, reverse, rows, counts,
-        );
-        return served(m, done);
-    }
-    let done = access::write(
-        control, s, row, column, bytes, store, forward, reverse, rows, counts,
+fn set_up(memory: &mut Memory) -> Answer {
+    let done = epoch::set_up(
+        memory.control,
+        memory.settings,
+        memory.store.part(),
+        memory.forward.part_mut(),
+        memory.reverse.part_mut(),
+        memory.rows.part_mut(),
+        memory.counts.part_mut(),
     );
-    served(m, done)
+    numbered(memory, done)
 }
 
-// A memory as it is. The contract states the lengths of its arrays, which are needed to lend a part of one.
-fn sized(m: Memory) -> Memory
-    ensures { Sized result }
-{
-    m
+fn tick(memory: &mut Memory) -> Answer {
+    let done = epoch::tick(
+        memory.control,
+        memory.settings,
+        memory.store.part(),
+        memory.forward.part(),
+        memory.reverse.part(),
+        memory.rows.part_mut(),
+        memory.counts.part_mut(),
+    );
+    numbered(memory, done)
 }
 
-// One of the five calls, by its verb, on a memory: what is lent of each part is handed on, and the parts are put back.
-pub fn call(given: Memory, verb: usize, row: u32, column: usize) -> Step {
-    let m = sized(given);
-    let bytes = m.bytes;
-    let mut buffer = m.buffer;
-    let mut store = m.store;
-    let mut forward = m.forward;
-    let mut reverse = m.reverse;
-    let mut rows = m.rows;
-    let mut counts = m.counts;
-    let w = memory::length(m, memory::BYTES);
-    let b = memory::length(m, memory::BUFFER);
-    let n = memory::length(m, memory::STORE);
-    let f = memory::length(m, memory::FORWARD);
-    let r = memory::length(m, memory::REVERSE);
-    let k = memory::length(m, memory::ROWS);
-    let c = memory::length(m, memory::COUNTS);
-    let done = on_lent(
-        m,
-        verb,
+fn read(memory: &mut Memory, row: u32) -> Answer {
+    let done = access::read(
+        memory.control,
+        memory.settings,
+        row,
+        memory.buffer.part_mut(),
+        memory.store.part_mut(),
+        memory.forward.part_mut(),
+        memory.reverse.part_mut(),
+        memory.rows.part_mut(),
+        memory.counts.part_mut(),
+    );
+    served(memory, done)
+}
+
+fn write(memory: &mut Memory, row: u32, column: usize, bytes: &[u8]) -> Answer {
+    let done = access::write(
+        memory.control,
+        memory.settings,
         row,
         column,
-        &bytes[..w],
-        &mut buffer[..b],
-        &mut store[..n],
-        &mut forward[..f],
-        &mut reverse[..r],
-        &mut rows[..k],
-        &mut counts[..c],
+        bytes,
+        memory.store.part_mut(),
+        memory.forward.part_mut(),
+        memory.reverse.part_mut(),
+        memory.rows.part_mut(),
+        memory.counts.part_mut(),
     );
-    let answer = done.answer;
-    let mut after = done.memory;
-    after.buffer = buffer;
-    after.store = store;
-    after.forward = forward;
-    after.reverse = reverse;
-    after.rows = rows;
-    after.counts = counts;
-    Step {
-        answer: answer,
-        memory: after,
-    }
+    served(memory, done)
+}
+
+// An inspect, by both of its calls: what it answers, and the bytes that it shows.
+pub fn inspect(alloc: Global, memory: &Memory, row: u32) -> Result<(Answer, Vec<u8>), AllocError> {
+    let control = memory.control;
+    let settings = memory.settings;
+    let store = memory.store.part();
+    let forward = memory.forward.part();
+    let reverse = memory.reverse.part();
+    let rows = memory.rows.part();
+    let counts = memory.counts.part();
+    let checked = look::check_inspect(
+        control, settings, row, store, forward, reverse, rows, counts,
+    );
+    let part = look::inspect_part(
+        control, settings, row, store, forward, reverse, rows, counts,
+    );
+    let number = match checked {
+        Ok(()) => 0,
+        Err(refusal) => refusal.number(),
+    };
+    let answer = Answer {
+        length: part.len() as u64,
+        ..Answer::of_number(u64::from(number))
+    };
+    Ok((answer, Vec::from_slice(alloc, part)?))
+}
+
+// One of the five calls, made on a memory: what it answers, and the bytes that an inspect shows.
+pub fn make(
+    alloc: Global,
+    memory: &mut Memory,
+    call: Call<'_>,
+) -> Result<(Answer, Vec<u8>), AllocError> {
+    let answer = match call {
+        Call::Inspect { row } => return inspect(alloc, memory, row),
+        Call::SetUp => set_up(memory),
+        Call::Tick => tick(memory),
+        Call::Read { row } => read(memory, row),
+        Call::Write { row, column, bytes } => write(memory, row, column, bytes),
+    };
+    Ok((answer, Vec::new(alloc)))
 }
 
 // The test of 6 alone, for counts of bytes that no slice can have: of a read where there is no column.
-pub fn span_number(s: Settings, writes: bool, column: usize, count: usize) -> u32 {
-    let asked = if writes {
-        ladder::write_asked(s, 0, column, count)
-    } else {
-        ladder::read_asked(s, 0, count)
+pub fn span(s: Settings, column: Option<usize>, count: usize) -> Answer {
+    let asked = match column {
+        Some(column) => ladder::write_asked(s, 0, column, count),
+        None => ladder::read_asked(s, 0, count),
     };
-    if asked.off { 6 } else { 0 }
+    if asked.off {
+        Answer::of_refusal(Refusal::Span)
+    } else {
+        Answer::of_number(0)
+    }
 }
 
-// The sums of the numbers.
-pub fn least_size(numbers: &Numbers) -> Sum {
-    figures::sum_of(sizing::least_size(SizeTimes {
-        trefw: numbers[0],
-        trc: numbers[1],
-        tmov: numbers[2],
-        banks: numbers[3],
-        threshold: numbers[4],
-    }))
+// The sizing sums.
+pub fn least_size(times: SizeTimes) -> Answer {
+    Answer::of_sum(Sum::from(sizing::least_size(times)))
 }
 
-pub fn most_activations(numbers: &Numbers) -> Sum {
-    figures::sum_of(sizing::most_activations(RefreshTimes {
-        trefw: numbers[0],
-        trc: numbers[1],
-        trefi: numbers[2],
-        trfc: numbers[3],
-    }))
+pub fn most_activations(times: RefreshTimes) -> Answer {
+    Answer::of_sum(Sum::from(sizing::most_activations(times)))
 }

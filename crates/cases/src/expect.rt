@@ -1,185 +1,251 @@
-// What an expectation of the script asks of the last call: its answer, and the memory that it left.
-use crate::memory::Memory;
-use crate::report::Case;
-use crate::script::Numbers;
-use crate::{bench, memory, report, script};
+// The last call: what it was made on, what it answered and what it left, and what an expectation of the script finds
+// there.
+use crate::bench;
+use crate::bench::{Answer, Call};
+use crate::fault::Fault;
+use crate::memory::{Memory, Part, ROOM, in_room};
+use crate::script::{Expectation, MOST_NUMBERS, Numbers};
+use std::alloc::{AllocError, Global};
+use std::fmt;
 
-// The first element of a part that is not the number for it, of so many; 256 where there is none.
-pub fn other_number(numbers: &Numbers, m: Memory, part: usize, from: usize, count: usize) -> usize {
-    let mut i: usize = 0;
-    while i < count {
-        let at = std::num::wrapping_add_usize(from, i) % 512;
-        if memory::element(m, part, i) != numbers[at] {
-            return i;
+// A figure of an answer, or an element of a part, that is not as expected.
+#[derive(Clone, Copy, Debug)]
+pub struct Difference {
+    name: &'static str,
+    at: usize,
+    expected: u64,
+    answered: u64,
+}
+
+impl fmt::Display for Difference {
+    fn fmt<W: fmt::Write>(&self, f: &mut fmt::Formatter<W>) -> fmt::Result {
+        let name = self.name;
+        let at = self.at;
+        let expected = self.expected;
+        let answered = self.answered;
+        write!(
+            f,
+            "{name:>8} at {at}: expected {expected}, answered {answered}"
+        )
+    }
+}
+
+// The name of the bytes that inspect shows.
+const SHOWN: &str = "part";
+
+#[derive(Drop)]
+pub struct Last {
+    pub before: Memory,
+    pub after: Memory,
+    pub answer: Answer,
+    // the bytes that an inspect shows
+    shown: Vec<u8>,
+    // how many an inspect shows where it is accepted
+    length: u64,
+    // the parts of which a line has said what the call left there
+    said: Vec<Part>,
+}
+
+impl Last {
+    // One of the five calls, made on a memory.
+    pub fn made(alloc: Global, before: Memory, call: Call<'_>) -> Result<Last, AllocError> {
+        let mut after = before.clone()?;
+        let (answer, shown) = bench::make(alloc, &mut after, call)?;
+        let length = match call {
+            Call::Inspect { .. } => u64::from(before.settings.w),
+            _ => 0,
+        };
+        Ok(Last {
+            before,
+            after,
+            answer,
+            shown,
+            length,
+            said: Vec::new(alloc),
+        })
+    }
+
+    // What is answered from the line alone, and leaves the memory as it is.
+    pub fn told(alloc: Global, memory: Memory, answer: Answer) -> Result<Last, AllocError> {
+        Ok(Last {
+            after: memory.clone()?,
+            before: memory,
+            answer,
+            shown: Vec::new(alloc),
+            length: 0,
+            said: Vec::new(alloc),
+        })
+    }
+
+    // The answer is this, whole.
+    fn is_answer(&self, expected: Answer) -> Option<Difference> {
+        let found = self.answer.figures();
+        let (at, (expected, answered)) = expected
+            .figures()
+            .into_iter()
+            .zip(found)
+            .enumerate()
+            .find(|(_, (expected, answered))| expected != answered)?;
+        Some(Difference {
+            name: "answer",
+            at,
+            expected,
+            answered,
+        })
+    }
+
+    // The call is accepted.
+    pub fn is_accepted(&self) -> Option<Difference> {
+        self.is_answer(Answer {
+            number: 0,
+            length: self.length,
+            ..self.answer
+        })
+    }
+
+    // The call is accepted, and answers this; how long an inspect's part is it has from the settings.
+    fn answers(&self, expected: Answer) -> Option<Difference> {
+        self.is_answer(Answer {
+            length: self.length,
+            ..expected
+        })
+    }
+
+    // The memory is this, in every part.
+    fn leaves(&self, expected: &Memory) -> Option<Difference> {
+        Part::ALL
+            .iter()
+            .find_map(|part| self.changed(expected, *part))
+    }
+
+    // A part of the memory is as expected: where it is not, the first element.
+    fn changed(&self, expected: &Memory, part: Part) -> Option<Difference> {
+        let at = self.after.changed(expected, part)?;
+        Some(self.wrong(part, at, expected.element(part, at)))
+    }
+
+    fn wrong(&self, part: Part, at: usize, expected: u64) -> Difference {
+        Difference {
+            name: part.name(),
+            at,
+            expected,
+            answered: self.after.element(part, at),
         }
-        i += 1;
     }
-    256
-}
 
-// The first of an answer's figures that is not as expected; 6 where there is none.
-pub fn other_figure(a: [u64; 6], b: [u64; 6]) -> usize {
-    let mut i: usize = 0;
-    while i < 6 {
-        if a[i] != b[i] {
-            return i;
+    // The call answers this, and leaves this memory where it is accepted, else the memory that it was made on.
+    pub fn answers_and_leaves(&self, expected: Answer, left: &Memory) -> Option<Difference> {
+        let memory = if expected.number == 0 {
+            left
+        } else {
+            &self.before
+        };
+        self.is_answer(expected).or_else(|| self.leaves(memory))
+    }
+
+    // The call is refused. Beside the number the answer holds nothing, and the memory is as it was.
+    pub fn is_refused(&self, number: u64) -> Option<Difference> {
+        self.answers_and_leaves(Answer::of_number(number), &self.before)
+    }
+
+    // Each part of which no line has spoken is as it was before the call.
+    fn rest_is_kept(&self) -> Option<Difference> {
+        Part::ALL
+            .iter()
+            .filter(|part| !self.said.contains(part))
+            .find_map(|part| self.changed(&self.before, *part))
+    }
+
+    // A part holds the values, and what lies behind it is as it was before the call.
+    fn part_is(&mut self, part: Part, values: &[u64]) -> Result<Option<Difference>, Fault> {
+        if values.len() != self.after.lent(part) {
+            return Err(Fault::Lent);
         }
-        i += 1;
-    }
-    i
-}
-
-// The first element in which a part of the memory is not as it was before the call; 256 where there is none. The places
-// of bank 0 belong to the part `control`.
-fn changed_element(c: Case, part: usize) -> usize {
-    let places = (part == memory::SPILL) | (part == memory::ACTS);
-    let from: usize = if places { 1 } else { 0 };
-    memory::difference(c.now, c.before, part, from)
-}
-
-// The first part of the memory that the call changed, of all or of those that no line has spoken of; 9 where none is.
-pub fn changed_part(c: Case, all: bool) -> usize {
-    let mut part: usize = 0;
-    while part < 9 {
-        let i = changed_element(c, part);
-        if (i < 256) & (all | !c.said[part]) {
-            return part;
+        self.said.push(part)?;
+        for (i, value) in values.iter().enumerate() {
+            if self.after.element(part, i) != *value {
+                return Ok(Some(self.wrong(part, i, *value)));
+            }
         }
-        part += 1;
+        let behind = self.after.difference(&self.before, part, values.len());
+        Ok(behind.map(|i| self.wrong(part, i, self.before.element(part, i))))
     }
-    part
-}
 
-// Case: the answer whole.
-pub fn check_answer(c: Case, expected: [u64; 6]) -> Case {
-    let found = c.answer;
-    let i = other_figure(found, expected);
-    if i < 6 {
-        return report::wrong_answer(c, i, expected[i], found[i]);
-    }
-    report::right(c)
-}
-
-// The length of inspect's part, where the last call is an inspect.
-pub fn part_length(c: Case) -> u64 {
-    if c.called == script::INSPECT {
-        c.now.settings.w as u64
-    } else {
-        0
-    }
-}
-
-// Case: the last call is accepted.
-pub fn accept(c: Case) -> Case {
-    let a = c.answer;
-    check_answer(c, [0, a[1], a[2], a[3], a[4], part_length(c)])
-}
-
-// `accepted`: with this place, slot moved to, row sent home and estimate, where given. A sum has no estimate.
-pub fn accepted(numbers: &Numbers, c: Case, count: usize) -> Case {
-    if count == 0 {
-        return accept(c);
-    }
-    let estimate = if count == 4 { numbers[3] } else { 0 };
-    check_answer(
-        c,
-        [
-            0,
-            numbers[0],
-            numbers[1],
-            numbers[2],
-            estimate,
-            part_length(c),
-        ],
-    )
-}
-
-// Case: an element of a part is not as expected.
-fn wrong_element(c: Case, part: usize, i: usize, expected: u64) -> Case {
-    report::wrong_part(c, part, i, expected, memory::element(c.now, part, i))
-}
-
-// Case: the memory is as it was before the call, all of it or what no line has spoken of.
-pub fn kept(c: Case, all: bool) -> Case {
-    let part = changed_part(c, all);
-    if part == 9 {
-        return report::right(c);
-    }
-    let i = changed_element(c, part);
-    wrong_element(c, part, i, memory::element(c.before, part, i))
-}
-
-// Case: the last call answers this, and leaves this memory where it is accepted, else the memory that it was made on.
-pub fn answers(c: Case, expected: [u64; 6], left: Memory) -> Case {
-    let found = c.answer;
-    if other_figure(found, expected) < 6 {
-        return check_answer(c, expected);
-    }
-    let mut d = c;
-    if expected[0] == 0 {
-        d.before = left;
-    }
-    kept(d, true)
-}
-
-// Case: the last call is refused. Beside the number the answer holds nothing, and the memory is as it was.
-pub fn refused(c: Case, number: u64) -> Case {
-    answers(c, bench::numbered(number, 0), c.before)
-}
-
-// Case: inspect shows the numbers.
-pub fn shown_is(numbers: &Numbers, c: Case, count: usize) -> Case {
-    if c.answer[5] != (count as u64) {
-        return report::wrong_answer(c, 5, count as u64, c.answer[5]);
-    }
-    let i = other_number(numbers, c.now, memory::BYTES, 0, count);
-    if i < 256 {
-        return wrong_element(c, memory::BYTES, i, numbers[i]);
-    }
-    report::right(c)
-}
-
-// Case: a part holds the numbers, and what lies behind it is as it was before the call.
-pub fn part_is(numbers: &Numbers, c: Case, part: usize, count: usize) -> Case {
-    let mut d = c;
-    d.said[part % 10] = true;
-    let i = other_number(numbers, c.now, part, 0, count);
-    if i < 256 {
-        return wrong_element(d, part, i, numbers[i]);
-    }
-    let j = memory::difference(c.now, c.before, part, count);
-    if j < 256 {
-        return wrong_element(d, part, j, memory::element(c.before, part, j));
-    }
-    report::right(d)
-}
-
-// The first number, from one on, that inspect does not show of a row; 512 where there is none.
-pub fn hidden_number(numbers: &Numbers, m: Memory, row: u64, from: usize, w: usize) -> usize {
-    let step = bench::call(m, script::INSPECT, memory::narrow32(row), 0);
-    let i = other_number(numbers, step.memory, memory::BYTES, from, w);
-    if (i < 256) | (step.answer[0] != 0) {
-        return std::num::wrapping_add_usize(from, i % 256);
-    }
-    512
-}
-
-// Case: the bytes of visible rows 0 to N - 1, as inspect shows them, are the numbers.
-pub fn visible_is(numbers: &Numbers, c: Case, count: usize) -> Case {
-    let w = memory::cut(c.now.settings.w as u64);
-    let n = memory::cut(c.now.settings.n as u64);
-    let mut row: usize = 0;
-    let mut from: usize = 0;
-    while row < n {
-        let at = hidden_number(numbers, c.now, row as u64, from, w);
-        if at < count {
-            return report::wrong_part(c, memory::BYTES, at, numbers[at % 512], row as u64);
+    // Inspect shows the values.
+    fn shows(&self, values: &[u64]) -> Option<Difference> {
+        let length = values.len() as u64;
+        if self.answer.length != length {
+            return Some(Difference {
+                name: "answer",
+                at: 5,
+                expected: length,
+                answered: self.answer.length,
+            });
         }
-        from = std::num::wrapping_add_usize(from, w);
-        row += 1;
+        let (at, (expected, answered)) = values
+            .iter()
+            .copied()
+            .zip(self.shown.iter().map(|byte| u64::from(*byte)))
+            .enumerate()
+            .find(|(_, (expected, answered))| expected != answered)?;
+        Some(Difference {
+            name: SHOWN,
+            at,
+            expected,
+            answered,
+        })
     }
-    if (from != count) | (256 < c.now.settings.n) {
-        return report::refuse(c, b"another number of values than N rows have");
+
+    // The bytes of visible rows 0 to N - 1, as inspect shows them, are the first so many of the numbers.
+    fn rows_are(
+        &self,
+        alloc: Global,
+        numbers: &Numbers,
+        count: usize,
+    ) -> Result<Option<Difference>, Fault> {
+        let settings = self.after.settings;
+        let w = in_room(u64::from(settings.w));
+        let mut from = 0usize;
+        for row in 0..settings.n.min(ROOM as u32) {
+            let (answer, shown) = bench::inspect(alloc, &self.after, row)?;
+            let hidden = (0..w).find(|i| {
+                let byte = shown.get(*i).map_or(0, |byte| u64::from(*byte));
+                byte != numbers[from.saturating_add(*i) % MOST_NUMBERS]
+            });
+            let refused = if answer.number == 0 { None } else { Some(0) };
+            if let Some(i) = hidden.or(refused) {
+                let at = from.saturating_add(i);
+                if at < count {
+                    return Ok(Some(Difference {
+                        name: SHOWN,
+                        at,
+                        expected: numbers[at % MOST_NUMBERS],
+                        answered: u64::from(row),
+                    }));
+                }
+            }
+            from = from.saturating_add(w);
+        }
+        if from != count || settings.n as usize > ROOM {
+            return Err(Fault::Visible);
+        }
+        Ok(None)
     }
-    report::right(c)
+
+    // The first difference from an expectation; none is as expected.
+    pub fn judge(
+        &mut self,
+        alloc: Global,
+        expected: Expectation<'_>,
+    ) -> Result<Option<Difference>, Fault> {
+        match expected {
+            Expectation::Accepted => Ok(self.is_accepted()),
+            Expectation::Answers(answer) => Ok(self.answers(answer)),
+            Expectation::Refused(number) => Ok(self.is_refused(number)),
+            Expectation::Is(part, values) => self.part_is(part, values),
+            Expectation::Shown(values) => Ok(self.shows(values)),
+            Expectation::Visible(numbers, count) => self.rows_are(alloc, numbers, count),
+            Expectation::RestKept => Ok(self.rest_is_kept()),
+        }
+    }
 }

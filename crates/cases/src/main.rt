@@ -2,109 +2,72 @@
 // beside this program, `stdin`, has the cases of documents 01 and 02, and says how a script is written.
 #![tactic(auto)]
 
-ghost use Rattle.std.specs.Prelude.{◌≡◌, ◌≤◌, length};
-
-use report::Case;
-use script::{Numbers, Scan};
-use std::io::{Read, Stdin, Stdout};
+use fault::Fault;
+use report::Report;
+use script::{Numbers, Sentence};
+use session::Session;
+use std::alloc::Global;
+use std::io;
+use std::io::{ErrorKind, Read};
 
 mod bench;
 mod expect;
-mod lines;
+mod fault;
 mod memory;
 mod order;
 mod report;
 mod script;
+mod session;
 
 // A script has at most so many bytes.
 const MOST: usize = 262144;
 
-// One byte more, so that a longer script is seen to be longer.
-fn text_buffer() -> [u8; 262145]
-    ensures { 262145 ≡ length result }
-{
-    [0u8; 262145]
-}
-
-// Reads until the buffer is full, the script ends or a read fails, and tells how many bytes stand in the buffer.
-fn read_script(mut stdin: Stdin, text: &mut [u8]) -> usize
-    ensures { result ≤ length text.new }
-{
-    let mut done: usize = 0;
-    while done < text.len() {
-        match stdin.read(&mut text[done..]) {
-            Ok(0) | Err(_) => return done,
-            Ok(count) => done += count,
-        }
-    }
-    done
-}
-
-// The script as far as it is read, and the line that is read.
-#[derive(Clone, Copy)]
-struct Reading {
-    case: Case,
-    scan: Scan,
-}
-
-// The line ends before index i.
-fn end_line(text: &[u8], numbers: &mut Numbers, r: Reading, i: usize) -> Reading {
-    let c = r.case;
-    let s = script::end_item(numbers, r.scan, i);
-    let d = if s.good & (s.verb == script::NONE) {
-        c
-    } else {
-        lines::line(text, numbers, c, s, i)
-    };
-    let mut e = d;
-    e.line = std::num::wrapping_add_u64(d.line, 1);
-    Reading {
-        case: e,
-        scan: Scan::START,
+// The script as far as it can be read, and no further than one byte more than it may have, by which a longer one is seen to
+// be longer.
+fn read_script(alloc: Global, input: impl Read + Drop) -> io::Result<Vec<u8>> {
+    let mut text = Vec::new(alloc);
+    match input.take(MOST as u64 + 1).read_to_end(&mut text) {
+        Err(e) if e.kind() == ErrorKind::OutOfMemory => Err(e),
+        _ => Ok(text),
     }
 }
 
-// The byte at index i.
-fn byte(text: &[u8], numbers: &mut Numbers, r: Reading, i: usize, b: u8) -> Reading {
-    if b == 10 {
-        return end_line(text, numbers, r, i);
+// A line of the script is done.
+fn run_line<'a>(
+    session: &mut Session<'a>,
+    numbers: &mut Numbers,
+    line: &'a [u8],
+) -> Result<(), Fault> {
+    if let Some(name) = script::group_name(line) {
+        session.report.begin_group(name);
+        return Ok(());
     }
-    let c = r.case;
-    Reading {
-        case: c,
-        scan: script::eat(numbers, r.scan, b, i),
+    match Sentence::read(line, numbers)? {
+        None => Ok(()),
+        Some(sentence) => session.line(sentence.line(numbers)?),
     }
 }
 
 // Every line, to the end of the script or to one that is refused.
-fn run(out: Stdout, text: &[u8], numbers: &mut Numbers) -> Case {
-    let mut r = Reading {
-        case: report::begin(out),
-        scan: Scan::START,
-    };
-    let mut i: usize = 0;
-    while i < text.len() {
-        r = byte(text, numbers, r, i, text[i]);
-        i += 1;
-        if r.case.stopped {
-            return r.case;
-        }
+fn run<'a>(session: &mut Session<'a>, text: &'a [u8]) -> Result<(), Fault> {
+    let mut numbers = [0; 512];
+    for line in text.split(|byte| *byte == b'\n') {
+        run_line(session, &mut numbers, line)?;
+        session.report.next_line();
     }
-    let last = end_line(text, numbers, r, i);
-    last.case
+    if text.len() > MOST {
+        return Err(Fault::TooLong);
+    }
+    Ok(())
 }
 
-fn main(rt: HostRuntime) {
-    let mut text = text_buffer();
-    let count = read_script(rt.stdin(), &mut text);
-    let mut numbers = [0u64; 512];
-    let c = run(rt.stdout(), &text[..count], &mut numbers);
-    if c.stopped {
-        return;
+fn main(rt: HostRuntime) -> io::Result<()> {
+    let text = read_script(rt.alloc(), rt.stdin())?;
+    let mut session = Session::new(rt.alloc(), Report::new(rt.stdout()));
+    match run(&mut session, text.as_slice()) {
+        Ok(()) => session.report.end(),
+        Err(Fault::OutOfMemory) => return Err(ErrorKind::OutOfMemory.into()),
+        Err(fault) => session.report.refuse(fault),
     }
-    if MOST < count {
-        report::refuse(c, b"the script is too long");
-        return;
-    }
-    report::total(report::end_group(&text[..count], c));
+    Ok(())
 }

@@ -1,246 +1,226 @@
-// What a caller lends, as one value. The parts are numbered, and so are the elements of a part: each has 256, of which
-// the first are lent.
-ghost use Rattle.std.specs.Prelude.{◌≤◌};
-
+// What a caller lends, as one value: the settings, the control record, and the room of each part.
+use crate::fault::Fault;
 use geometry::{Control, Settings};
+use std::alloc::{AllocError, Global};
+use std::num::TryFromIntError;
+
+// The room of a part, in elements.
+pub const ROOM: usize = 256;
+
+// The mark in the pointer tables and the tracker rows; in an answer, no slot and no row.
+pub const MARK: u16 = 65535;
+
+// So many elements behind what is lent are compared too.
+const BEHIND: usize = 4;
 
 // The parts. The control record has three: its fields, of the banks those of bank 0, and the places of all banks in
-// `spill` and in `acts`. The bytes that a write writes, or that an inspect shows, are one more.
-pub const CONTROL: usize = 0;
+// `spill` and in `acts`.
+#[derive(Clone, Copy, Debug, PartialEq, Eq)]
+pub enum Part {
+    Control,
+    Store,
+    Forward,
+    Reverse,
+    Rows,
+    Counts,
+    Buffer,
+    Spill,
+    Acts,
+}
 
-pub const STORE: usize = 1;
+impl Part {
+    pub const ALL: [Part; 9] = [
+        Part::Control,
+        Part::Store,
+        Part::Forward,
+        Part::Reverse,
+        Part::Rows,
+        Part::Counts,
+        Part::Buffer,
+        Part::Spill,
+        Part::Acts,
+    ];
 
-pub const FORWARD: usize = 2;
+    // The name in the script and in what is printed.
+    pub fn name(self) -> &'static str {
+        match self {
+            Part::Control => "control",
+            Part::Store => "store",
+            Part::Forward => "forward",
+            Part::Reverse => "reverse",
+            Part::Rows => "rows",
+            Part::Counts => "counts",
+            Part::Buffer => "buffer",
+            Part::Spill => "spill",
+            Part::Acts => "acts",
+        }
+    }
 
-pub const REVERSE: usize = 3;
+    // The first element that `rest kept` speaks of: the places of bank 0 belong to the part `control`.
+    fn first_kept(self) -> usize {
+        match self {
+            Part::Spill | Part::Acts => 1,
+            _ => 0,
+        }
+    }
+}
 
-pub const ROWS: usize = 4;
+// Room for the elements of a part, of which the first are lent.
+#[derive(Clone, Debug, Drop)]
+pub struct Room<T> {
+    elements: Vec<T>,
+    pub lent: usize,
+}
 
-pub const COUNTS: usize = 5;
+impl<T: Copy> Room<T> {
+    fn new(alloc: Global, value: T, lent: usize) -> Result<Room<T>, AllocError> {
+        let elements = vec![in alloc; value; ROOM]?;
+        Ok(Room { elements, lent })
+    }
 
-pub const BUFFER: usize = 6;
+    // What is lent.
+    pub fn part(&self) -> &[T] {
+        let end = self.lent.min(self.elements.len());
+        &self.elements[..end]
+    }
 
-pub const SPILL: usize = 7;
+    // What is lent, to be written.
+    pub fn part_mut(&mut self) -> &mut [T] {
+        let end = self.lent.min(self.elements.len());
+        &mut self.elements[..end]
+    }
 
-pub const ACTS: usize = 8;
+    // Puts a value into element i.
+    pub fn set(&mut self, i: usize, value: T) {
+        if let Some(element) = self.elements.get_mut(i) {
+            *element = value;
+        }
+    }
+}
 
-pub const BYTES: usize = 9;
+// Element i as a number, 0 past the end.
+fn element_of<T: Copy + Into<u64>>(elements: &[T], i: usize) -> u64 {
+    elements.get(i).map_or(0, |element| (*element).into())
+}
 
-#[derive(Clone, Copy)]
+// Puts values into the first elements.
+fn put<T: TryFrom<u64, Error = TryFromIntError> + Drop>(
+    elements: &mut [T],
+    values: &[u64],
+) -> Result<(), Fault> {
+    for (element, value) in elements.iter_mut().zip(values) {
+        *element = T::try_from(*value)?;
+    }
+    Ok(())
+}
+
+#[derive(Clone, Drop)]
 pub struct Memory {
     pub settings: Settings,
     pub control: Control,
-    pub store: [u8; 256],
-    pub forward: [u16; 256],
-    pub reverse: [u16; 256],
-    pub rows: [u16; 256],
-    pub counts: [u32; 256],
-    pub buffer: [u8; 256],
-    pub bytes: [u8; 256],
-    // by part, how many elements are lent
-    pub lengths: [usize; 10],
+    pub store: Room<u8>,
+    pub forward: Room<u16>,
+    pub reverse: Room<u16>,
+    pub rows: Room<u16>,
+    pub counts: Room<u32>,
+    pub buffer: Room<u8>,
 }
 
-// A field of the control record; of the banks, those of bank 0.
-fn field(c: Control, i: usize) -> u64 {
-    match i {
-        0 => c.head as u64,
-        1 => c.passed as u64,
-        2 => wide32(c.spill[0]),
-        3 => wide32(c.acts[0]),
-        _ => 0,
-    }
+// A number of elements, or as many as there is room for.
+pub fn in_room(count: u64) -> usize {
+    usize::try_from(count).map_or(ROOM, |count| count.min(ROOM))
 }
 
-fn with_field(c: Control, i: usize, value: u32) -> Control {
-    let mut d = c;
-    match i {
-        0 => d.head = value,
-        1 => d.passed = value,
-        2 => d.spill[0] = value,
-        _ => d.acts[0] = value,
-    }
-    d
-}
-
-// The number of bank i, of one for each bank; 0 past the last.
-fn of_bank(numbers: [u32; 16], i: usize) -> u64 {
-    if 16 <= i {
-        return 0;
-    }
-    wide32(numbers[i])
-}
-
-// The control record with a value for bank i.
-fn with_spill(c: Control, i: usize, value: u32) -> Control {
-    let mut d = c;
-    if i < 16 {
-        d.spill[i] = value;
-    }
-    d
-}
-
-fn with_acts(c: Control, i: usize, value: u32) -> Control {
-    let mut d = c;
-    if i < 16 {
-        d.acts[i] = value;
-    }
-    d
-}
-
-fn wide8(x: u8) -> u64 {
-    x as u64
-}
-
-fn wide16(x: u16) -> u64 {
-    x as u64
-}
-
-fn wide32(x: u32) -> u64 {
-    x as u64
-}
-
-fn narrow8(x: u64) -> u8 {
-    (x % 256) as u8
-}
-
-fn narrow16(x: u64) -> u16 {
-    (x % 65536) as u16
-}
-
-pub fn narrow32(x: u64) -> u32 {
-    (x % 4294967296) as u32
-}
-
-// Element i of a part, 0 past its end.
-pub fn element(m: Memory, part: usize, i: usize) -> u64 {
-    if 256 <= i {
-        return 0;
-    }
-    match part {
-        0 => field(m.control, i),
-        1 => wide8(m.store[i]),
-        2 => wide16(m.forward[i]),
-        3 => wide16(m.reverse[i]),
-        4 => wide16(m.rows[i]),
-        5 => wide32(m.counts[i]),
-        6 => wide8(m.buffer[i]),
-        7 => of_bank(m.control.spill, i),
-        8 => of_bank(m.control.acts, i),
-        _ => wide8(m.bytes[i]),
-    }
-}
-
-// The memory with a value in element i of a part.
-pub fn with_element(m: Memory, part: usize, i: usize, value: u64) -> Memory {
-    let mut n = m;
-    if 256 <= i {
-        return n;
-    }
-    match part {
-        0 => {
-            let c = with_field(m.control, i, narrow32(value));
-            n.control = c;
+impl Memory {
+    // A memory for the settings, as set-up leaves it. Each part is lent in its length, or as far as there is room. Byte
+    // i of the store is i + 1, modulo 256, and the read buffer holds 200s.
+    pub fn new(alloc: Global, s: Settings) -> Result<Memory, AllocError> {
+        let homes = u64::from(s.n) * u64::from(s.w);
+        let slots = u64::from(s.q) * u64::from(s.w);
+        let entries = in_room(u64::from(s.k) * u64::from(s.b));
+        let mut store = Room::new(alloc, 0, in_room(homes.saturating_add(slots)))?;
+        for (byte, value) in store.elements.iter_mut().zip((1..=u8::MAX).chain(0..1)) {
+            *byte = value;
         }
-        1 => n.store[i] = narrow8(value),
-        2 => n.forward[i] = narrow16(value),
-        3 => n.reverse[i] = narrow16(value),
-        4 => n.rows[i] = narrow16(value),
-        5 => n.counts[i] = narrow32(value),
-        6 => n.buffer[i] = narrow8(value),
-        7 => {
-            let c = with_spill(m.control, i, narrow32(value));
-            n.control = c;
-        }
-        8 => {
-            let c = with_acts(m.control, i, narrow32(value));
-            n.control = c;
-        }
-        _ => n.bytes[i] = narrow8(value),
+        Ok(Memory {
+            settings: s,
+            control: geometry::NEW,
+            store,
+            forward: Room::new(alloc, MARK, in_room(u64::from(s.n)))?,
+            reverse: Room::new(alloc, MARK, in_room(u64::from(s.q)))?,
+            rows: Room::new(alloc, MARK, entries)?,
+            counts: Room::new(alloc, 0, entries)?,
+            buffer: Room::new(alloc, 200, in_room(u64::from(s.w)))?,
+        })
     }
-    n
-}
 
-// How many elements of a part are lent: modulo 257, since there are 256.
-pub fn length(m: Memory, part: usize) -> usize
-    ensures { result ≤ 256 }
-{
-    m.lengths[part % 10] % 257
-}
-
-// The memory with so many elements of a part lent.
-pub fn with_length(m: Memory, part: usize, count: usize) -> Memory {
-    let mut n = m;
-    n.lengths[part % 10] = count;
-    n
-}
-
-// The memory with one byte to write.
-pub fn with_byte(m: Memory, byte: u64) -> Memory {
-    with_length(with_element(m, BYTES, 0, byte), BYTES, 1)
-}
-
-// The first element, from one on, in which a part of two memories differs, among those lent and the four behind them;
-// 256 where none does.
-pub fn difference(a: Memory, b: Memory, part: usize, from: usize) -> usize {
-    let end = length(a, part) + 4;
-    let mut i = from;
-    while i < end {
-        if element(a, part, i) != element(b, part, i) {
-            return i;
+    // How many elements of a part are lent.
+    pub fn lent(&self, part: Part) -> usize {
+        match part {
+            Part::Control => 4,
+            Part::Store => self.store.lent,
+            Part::Forward => self.forward.lent,
+            Part::Reverse => self.reverse.lent,
+            Part::Rows => self.rows.lent,
+            Part::Counts => self.counts.lent,
+            Part::Buffer => self.buffer.lent,
+            Part::Spill | Part::Acts => 16,
         }
-        i += 1;
     }
-    256
-}
 
-// The bytes of a store at first: byte i is i + 1, modulo 256.
-fn first_bytes() -> [u8; 256] {
-    let mut a = [0u8; 256];
-    let mut i: usize = 0;
-    while i < 256 {
-        a[i] = ((i + 1) % 256) as u8;
-        i += 1;
+    // The fields of the control record; of the banks, those of bank 0.
+    fn fields(&self) -> [u32; 4] {
+        let c = self.control;
+        [c.head, c.passed, c.spill[0], c.acts[0]]
     }
-    a
-}
 
-pub fn cut(x: u64) -> usize
-    ensures { result ≤ 256 }
-{
-    if x <= 256 { x as usize } else { 256 }
-}
+    // Element i of a part, 0 past its end.
+    pub fn element(&self, part: Part, i: usize) -> u64 {
+        match part {
+            Part::Control => element_of(&self.fields(), i),
+            Part::Store => element_of(self.store.elements.as_slice(), i),
+            Part::Forward => element_of(self.forward.elements.as_slice(), i),
+            Part::Reverse => element_of(self.reverse.elements.as_slice(), i),
+            Part::Rows => element_of(self.rows.elements.as_slice(), i),
+            Part::Counts => element_of(self.counts.elements.as_slice(), i),
+            Part::Buffer => element_of(self.buffer.elements.as_slice(), i),
+            Part::Spill => element_of(&self.control.spill, i),
+            Part::Acts => element_of(&self.control.acts, i),
+        }
+    }
 
-// (N + Q) × W, or 256 where it is more.
-fn store_length(s: Settings) -> usize {
-    let homes = (s.n as u64) * (s.w as u64);
-    let slots = (s.q as u64) * (s.w as u64);
-    cut((cut(homes) + cut(slots)) as u64)
-}
+    // Puts values into the first elements of a part.
+    pub fn put(&mut self, part: Part, values: &[u64]) -> Result<(), Fault> {
+        match part {
+            Part::Control => {
+                let mut fields = self.fields();
+                put(&mut fields, values)?;
+                let [head, passed, spill, acts] = fields;
+                self.control.head = head;
+                self.control.passed = passed;
+                self.control.spill[0] = spill;
+                self.control.acts[0] = acts;
+                Ok(())
+            }
+            Part::Store => put(self.store.elements.as_mut_slice(), values),
+            Part::Forward => put(self.forward.elements.as_mut_slice(), values),
+            Part::Reverse => put(self.reverse.elements.as_mut_slice(), values),
+            Part::Rows => put(self.rows.elements.as_mut_slice(), values),
+            Part::Counts => put(self.counts.elements.as_mut_slice(), values),
+            Part::Buffer => put(self.buffer.elements.as_mut_slice(), values),
+            Part::Spill => put(&mut self.control.spill, values),
+            Part::Acts => put(&mut self.control.acts, values),
+        }
+    }
 
-// K × B, or 256 where it is more.
-fn tracker_length(s: Settings) -> usize {
-    cut((s.k as u64) * (s.b as u64))
-}
+    // The first element of a part, from one on, that is not as in another memory, of those lent and of those behind.
+    pub fn difference(&self, other: &Memory, part: Part, from: usize) -> Option<usize> {
+        let end = self.lent(part).saturating_add(BEHIND);
+        (from..end).find(|i| self.element(part, *i) != other.element(part, *i))
+    }
 
-// A memory for the settings, as set-up leaves it. Each part is lent in its length, or as far as there is room. The read
-// buffer holds 200s.
-pub fn new(s: Settings) -> Memory {
-    let store = store_length(s);
-    let n = cut(s.n as u64);
-    let q = cut(s.q as u64);
-    let k = tracker_length(s);
-    let w = cut(s.w as u64);
-    Memory {
-        settings: s,
-        control: geometry::NEW,
-        store: first_bytes(),
-        forward: [65535u16; 256],
-        reverse: [65535u16; 256],
-        rows: [65535u16; 256],
-        counts: [0u32; 256],
-        buffer: [200u8; 256],
-        bytes: [0u8; 256],
-        lengths: [4, store, n, q, k, k, w, 16, 16, 0],
+    // The same of the elements that `rest kept` speaks of.
+    pub fn changed(&self, other: &Memory, part: Part) -> Option<usize> {
+        self.difference(other, part, part.first_kept())
     }
 }

@@ -5,249 +5,238 @@
 // - acts > L and acts = L exclude each other, so here the 4 that stands with 8 is a count above acts;
 // - the two 7s have one number, and their order shows only against 8 and 9.
 // N 4, Q 2, W 2, K 2, A 2, L 5; row 1 is due, and slot 0 is `head`. The store's byte i is i + 1.
-use crate::memory::Memory;
-use crate::report::Case;
-use crate::{bench, expect, lines, memory, script};
+use crate::bench::{Answer, Call};
+use crate::memory::{MARK, Memory};
+use crate::session::Session;
 use geometry::Settings;
+use std::alloc::{AllocError, Global};
 
-// The defects, by bits: the lowest is the first.
-const RANGE: u64 = 1;
-
-const LIMIT: u64 = 2;
-
-const LENGTH: u64 = 4;
-
-const COUNT: u64 = 8;
-
-const ROW: u64 = 16;
-
-const SPAN: u64 = 32;
-
-const POINTER: u64 = 64;
-
-const EPOCH: u64 = 128;
-
-const SLOTS: u64 = 256;
-
-const TARGET: u64 = 512;
-
-fn has(defects: u64, one: u64) -> bool {
-    defects & one != 0
+// The defects, by the bits of their set: the lowest is the first.
+#[derive(Clone, Copy, Debug, PartialEq, Eq)]
+enum Defect {
+    Range = 1,
+    Limit = 2,
+    Length = 4,
+    Count = 8,
+    Row = 16,
+    Span = 32,
+    Pointer = 64,
+    Epoch = 128,
+    Slots = 256,
+    Target = 512,
 }
 
-fn choose(test: bool, yes: u64, no: u64) -> u64 {
-    if test { yes } else { no }
-}
+impl Defect {
+    const ALL: [Defect; 10] = [
+        Defect::Range,
+        Defect::Limit,
+        Defect::Length,
+        Defect::Count,
+        Defect::Row,
+        Defect::Span,
+        Defect::Pointer,
+        Defect::Epoch,
+        Defect::Slots,
+        Defect::Target,
+    ];
 
-// 1: Q = 1. 2: L = 6 = A × (K + 1). 3: the store is one byte short.
-fn fitted(defects: u64) -> Memory {
-    let q: u32 = if has(defects, RANGE) { 1 } else { 2 };
-    let l: u32 = if has(defects, LIMIT) { 6 } else { 5 };
-    let m = memory::new(Settings {
-        n: 4,
-        q: q,
-        w: 2,
-        k: 2,
-        a: 2,
-        l: l,
-        b: 1,
-    });
-    if has(defects, LENGTH) {
-        return memory::with_length(
-            m,
-            memory::STORE,
-            choose(has(defects, RANGE), 9, 11) as usize,
-        );
+    // The number with which a call stops at it.
+    fn number(self) -> u64 {
+        match self {
+            Defect::Range => 1,
+            Defect::Limit => 2,
+            Defect::Length => 3,
+            Defect::Count => 4,
+            Defect::Row => 5,
+            Defect::Span => 6,
+            Defect::Pointer | Defect::Target => 7,
+            Defect::Epoch => 8,
+            Defect::Slots => 9,
+        }
     }
-    m
 }
 
-// 8: acts = L, else 1. 9: passed = Q, else 0.
-fn counted(m: Memory, defects: u64) -> Memory {
-    let acts = choose(has(defects, EPOCH), m.settings.l as u64, 1);
-    let passed = choose(has(defects, SLOTS), m.settings.q as u64, 0);
-    memory::with_element(
-        memory::with_element(m, memory::CONTROL, 1, passed),
-        memory::CONTROL,
-        3,
-        acts,
-    )
+// A set of defects.
+#[derive(Clone, Copy, Debug)]
+struct Defects(u16);
+
+impl Defects {
+    fn has(self, defect: Defect) -> bool {
+        self.0 & defect as u16 != 0
+    }
+
+    // What a call answers that judges these: the number of the first that there is, or that it is accepted.
+    fn refusal(self, judged: &[Defect]) -> Option<Answer> {
+        let first = judged.iter().find(|defect| self.has(**defect))?;
+        Some(Answer::of_number(first.number()))
+    }
+
+    // 1: Q = 1. 2: L = 6 = A × (K + 1).
+    fn settings(self) -> Settings {
+        Settings {
+            n: 4,
+            q: if self.has(Defect::Range) { 1 } else { 2 },
+            w: 2,
+            k: 2,
+            a: 2,
+            l: if self.has(Defect::Limit) { 6 } else { 5 },
+            b: 1,
+        }
+    }
+
+    // 5: the row is N.
+    fn row(self) -> u32 {
+        if self.has(Defect::Row) { 4 } else { 1 }
+    }
+
+    // The memory that has them.
+    fn memory(self, alloc: Global) -> Result<Memory, AllocError> {
+        let settings = self.settings();
+        let mut memory = Memory::new(alloc, settings)?;
+        // 3: the store is one byte short.
+        if self.has(Defect::Length) {
+            memory.store.lent = if self.has(Defect::Range) { 9 } else { 11 };
+        }
+        // 8: acts = L, else 1. 9: passed = Q, else 0.
+        memory.control.acts[0] = if self.has(Defect::Epoch) {
+            settings.l
+        } else {
+            1
+        };
+        memory.control.passed = if self.has(Defect::Slots) {
+            settings.q
+        } else {
+            0
+        };
+        // 7: row 1's forward entry is slot 1, whose reverse entry is 65535; its place is physical row 5 then.
+        if self.has(Defect::Pointer) {
+            memory.forward.set(1, 1);
+            track(&mut memory, 0, 5, 1);
+        } else {
+            track(&mut memory, 0, 1, 1);
+        }
+        // 7 again: slot 0's reverse entry is N.
+        if self.has(Defect::Target) {
+            memory.reverse.set(0, 4);
+        }
+        // 4: the second count is above acts.
+        if self.has(Defect::Count) {
+            track(&mut memory, 1, 2, 100);
+        }
+        Ok(memory)
+    }
 }
 
 // A tracker entry names a place, with a count.
-fn tracked(m: Memory, i: usize, place: u64, count: u64) -> Memory {
-    memory::with_element(
-        memory::with_element(m, memory::ROWS, i, place),
-        memory::COUNTS,
-        i,
-        count,
-    )
-}
-
-// 7: row 1's forward entry is slot 1, whose reverse entry is 65535; its place is physical row 5 then.
-fn pointed(m: Memory, defects: u64) -> Memory {
-    if has(defects, POINTER) {
-        return tracked(memory::with_element(m, memory::FORWARD, 1, 1), 0, 5, 1);
-    }
-    tracked(m, 0, 1, 1)
-}
-
-// 7 again: slot 0's reverse entry is N.
-fn targeted(m: Memory, defects: u64) -> Memory {
-    if has(defects, TARGET) {
-        return memory::with_element(m, memory::REVERSE, 0, 4);
-    }
-    m
-}
-
-// 4: the second count is above acts.
-fn overcounted(m: Memory, defects: u64) -> Memory {
-    if has(defects, COUNT) {
-        return tracked(m, 1, 2, 100);
-    }
-    m
-}
-
-fn lent(defects: u64) -> Memory {
-    overcounted(
-        targeted(pointed(counted(fitted(defects), defects), defects), defects),
-        defects,
-    )
-}
-
-// The number of the first defect, by the place of its bit; 0 of none.
-fn first(defects: u64) -> u64 {
-    match u64::trailing_zeros(defects) {
-        0 => 1,
-        1 => 2,
-        2 => 3,
-        3 => 4,
-        4 => 5,
-        5 => 6,
-        6 | 9 => 7,
-        7 => 8,
-        8 => 9,
-        _ => 0,
-    }
-}
-
-// 5: the row is N.
-fn row(defects: u64) -> u64 {
-    choose(has(defects, ROW), 4, 1)
+fn track(memory: &mut Memory, i: usize, place: u16, count: u32) {
+    memory.rows.set(i, place);
+    memory.counts.set(i, count);
 }
 
 // A new tracker, and `passed`, `spill` and `acts` 0.
-fn ticked(m: Memory) -> Memory {
-    let n = tracked(tracked(m, 0, 65535, 0), 1, 65535, 0);
-    memory::with_element(
-        memory::with_element(n, memory::CONTROL, 1, 0),
-        memory::CONTROL,
-        3,
-        0,
-    )
+fn ticked(memory: &mut Memory) {
+    track(memory, 0, MARK, 0);
+    track(memory, 1, MARK, 0);
+    memory.control.passed = 0;
+    memory.control.acts[0] = 0;
 }
 
 // Row 1 is accessed and moves to slot 0, its first byte being this: slot 0 is bytes 8 and 9 of the store.
-fn moved(m: Memory, byte: u64) -> Memory {
-    let n = memory::with_element(
-        memory::with_element(m, memory::STORE, 2, byte),
-        memory::STORE,
-        8,
-        byte,
-    );
-    let n = tracked(memory::with_element(n, memory::STORE, 9, 4), 0, 1, 2);
-    let n = memory::with_element(
-        memory::with_element(n, memory::FORWARD, 1, 0),
-        memory::REVERSE,
-        0,
-        1,
-    );
-    let n = memory::with_element(
-        memory::with_element(n, memory::CONTROL, 0, 1),
-        memory::CONTROL,
-        1,
-        1,
-    );
-    memory::with_element(n, memory::CONTROL, 3, 2)
+fn moved(memory: &mut Memory, byte: u8) {
+    memory.store.set(2, byte);
+    memory.store.set(8, byte);
+    memory.store.set(9, 4);
+    track(memory, 0, 1, 2);
+    memory.forward.set(1, 0);
+    memory.reverse.set(0, 1);
+    memory.control.head = 1;
+    memory.control.passed = 1;
+    memory.control.acts[0] = 2;
 }
 
-// The buffer holds the bytes of row 1.
-fn filled(m: Memory) -> Memory {
-    memory::with_element(
-        memory::with_element(m, memory::BUFFER, 0, 3),
-        memory::BUFFER,
-        1,
-        4,
-    )
-}
+// The answer of an access that is accepted: row 1 is at its home, with estimate A = 2, and moves to slot 0.
+const MOVED: Answer = Answer {
+    number: 0,
+    place: 1,
+    slot: 0,
+    row: 65535,
+    estimate: 2,
+    length: 0,
+};
+
+const SET_UP: [Defect; 3] = [Defect::Range, Defect::Limit, Defect::Length];
+
+const TICK: [Defect; 4] = [Defect::Range, Defect::Limit, Defect::Length, Defect::Count];
+
+const INSPECT: [Defect; 6] = [
+    Defect::Range,
+    Defect::Limit,
+    Defect::Length,
+    Defect::Count,
+    Defect::Row,
+    Defect::Pointer,
+];
 
 // Case: a set-up, which judges 1 to 3. Accepted, it leaves everything but the store new.
-fn set_up(c: Case, m: Memory, defects: u64) -> Case {
-    let number = first(defects & (RANGE | LIMIT | LENGTH));
-    let d = lines::make(c, m, script::SET_UP, 0, 0);
-    expect::answers(d, bench::numbered(number, 0), memory::new(m.settings))
+fn set_up(session: &mut Session<'_>, defects: Defects, memory: &Memory) -> Result<(), AllocError> {
+    let expected = defects.refusal(&SET_UP).unwrap_or(Answer::of_number(0));
+    let left = Memory::new(session.alloc, memory.settings)?;
+    session.judge_call(memory.clone()?, Call::SetUp, expected, &left)
 }
 
 // Case: a tick, 'not set-up, sizing' being the calls of 4.
-fn tick(c: Case, m: Memory, defects: u64) -> Case {
-    let number = first(defects & (RANGE | LIMIT | LENGTH | COUNT));
-    let d = lines::make(c, m, script::TICK, 0, 0);
-    expect::answers(d, bench::numbered(number, 0), ticked(m))
+fn tick(session: &mut Session<'_>, defects: Defects, memory: &Memory) -> Result<(), AllocError> {
+    let expected = defects.refusal(&TICK).unwrap_or(Answer::of_number(0));
+    let mut left = memory.clone()?;
+    ticked(&mut left);
+    session.judge_call(memory.clone()?, Call::Tick, expected, &left)
 }
 
 // Case: an inspect, which judges 1 to 5 and the row's 7. Its part has W bytes.
-fn inspect(c: Case, m: Memory, defects: u64) -> Case {
-    let number = first(defects & (RANGE | LIMIT | LENGTH | COUNT | ROW | POINTER));
-    let length = choose(number == 0, 2, 0);
-    let d = lines::make(c, m, script::INSPECT, row(defects), 0);
-    expect::answers(d, bench::numbered(number, length), m)
-}
-
-// The answer of an access with that number: row 1 is at its home, with estimate A = 2, and moves to slot 0.
-fn access_answer(number: u64) -> [u64; 6] {
-    if number == 0 {
-        return [0, 1, 0, 65535, 2, 0];
-    }
-    bench::numbered(number, 0)
+fn inspect(session: &mut Session<'_>, defects: Defects, memory: &Memory) -> Result<(), AllocError> {
+    let expected = defects.refusal(&INSPECT).unwrap_or(Answer {
+        length: 2,
+        ..Answer::of_number(0)
+    });
+    let call = Call::Inspect { row: defects.row() };
+    session.judge_call(memory.clone()?, call, expected, memory)
 }
 
 // Case: a read. 6: a buffer of 3 bytes.
-fn read(c: Case, m: Memory, defects: u64) -> Case {
-    let length = choose(has(defects, SPAN), 3, 2) as usize;
-    let n = memory::with_length(m, memory::BUFFER, length);
-    let d = lines::make(c, n, script::READ, row(defects), 0);
-    expect::answers(d, access_answer(first(defects)), filled(moved(n, 3)))
+fn read(session: &mut Session<'_>, defects: Defects, memory: &Memory) -> Result<(), AllocError> {
+    let expected = defects.refusal(&Defect::ALL).unwrap_or(MOVED);
+    let mut memory = memory.clone()?;
+    memory.buffer.lent = if defects.has(Defect::Span) { 3 } else { 2 };
+    let mut left = memory.clone()?;
+    moved(&mut left, 3);
+    left.buffer.set(0, 3);
+    left.buffer.set(1, 4);
+    let call = Call::Read { row: defects.row() };
+    session.judge_call(memory, call, expected, &left)
 }
 
 // Case: a write of one byte, 99. 6: at column 2.
-fn write(c: Case, m: Memory, defects: u64) -> Case {
-    let column = choose(has(defects, SPAN), 2, 0);
-    let n = memory::with_byte(m, 99);
-    let d = lines::make(c, n, script::WRITE, row(defects), column);
-    expect::answers(d, access_answer(first(defects)), moved(n, 99))
-}
-
-// Five cases: one set of defects.
-fn set_of(c: Case, defects: u64) -> Case {
-    let m = lent(defects);
-    write(
-        read(
-            inspect(tick(set_up(c, m, defects), m, defects), m, defects),
-            m,
-            defects,
-        ),
-        m,
-        defects,
-    )
+fn write(session: &mut Session<'_>, defects: Defects, memory: &Memory) -> Result<(), AllocError> {
+    let expected = defects.refusal(&Defect::ALL).unwrap_or(MOVED);
+    let mut left = memory.clone()?;
+    moved(&mut left, 99);
+    let call = Call::Write {
+        row: defects.row(),
+        column: if defects.has(Defect::Span) { 2 } else { 0 },
+        bytes: &[99],
+    };
+    session.judge_call(memory.clone()?, call, expected, &left)
 }
 
 // Each set of the ten defects, as the bits of a number: 1024 sets × 5 calls = 5120 cases.
-pub fn run(c: Case) -> Case {
-    let mut d = c;
-    let mut defects: u64 = 0;
-    while defects < 1024 {
-        d = set_of(d, defects);
-        defects += 1;
+pub fn run(session: &mut Session<'_>) -> Result<(), AllocError> {
+    for defects in (0..1024).map(Defects) {
+        let memory = defects.memory(session.alloc)?;
+        set_up(session, defects, &memory)?;
+        tick(session, defects, &memory)?;
+        inspect(session, defects, &memory)?;
+        read(session, defects, &memory)?;
+        write(session, defects, &memory)?;
     }
-    d
+    Ok(())
 }

@@ -1,299 +1,369 @@
-// One line of the script, read byte by byte: a verb, a second word or none, and numbers. A number is decimal, or `-`
-// for 65535, and with `*` and how often it stands there: 0*130. What is none of the words below is refused.
+// One line of the script: a verb, for some verbs a second word, and numbers. A number is decimal, or `-` for 65535, and
+// with `*` and how often it stands there: 0*130. What is none of the words below is refused.
+use crate::bench::{Answer, Kind};
+use crate::fault::Fault;
+use crate::memory::{MARK, Part, ROOM};
+use geometry::Settings;
+use sizing::{RefreshTimes, SizeTimes};
+use std::str::FromStr;
 
-pub type Numbers = [u64; 512];
+// A line has at most so many numbers.
+pub const MOST_NUMBERS: usize = 512;
 
-// The verbs, by their places among the names in `word`. The first ten are the parts of a memory.
-pub const SET_UP: usize = 10;
+// The numbers of a line. Those behind are of the lines before, and `visible` looks at them: so the array is kept, with a count.
+pub type Numbers = [u64; MOST_NUMBERS];
 
-pub const TICK: usize = 11;
-
-pub const INSPECT: usize = 12;
-
-pub const READ: usize = 13;
-
-pub const WRITE: usize = 14;
-
-pub const SPAN: usize = 15;
-
-pub const SIZE: usize = 16;
-
-pub const SETTINGS: usize = 18;
-
-pub const LEND: usize = 19;
-
-pub const UNDO: usize = 20;
-
-pub const ACCEPTED: usize = 21;
-
-pub const REFUSED: usize = 22;
-
-pub const REST: usize = 23;
-
-pub const FROM: usize = 24;
-
-pub const ORDER: usize = 25;
-
-pub const GROUP: usize = 26;
-
-pub const VISIBLE: usize = 27;
-
-// Second words, and none.
-pub const IS: usize = 28;
-
-pub const KEPT: usize = 29;
-
-pub const NONE: usize = 30;
-
-// Eight blanks, and seven before a hyphen, as bytes of a number.
-const BLANKS: u64 = 2314885530818453536;
-
-const HYPHEN: u64 = 2314885530818453549;
-
-// The item that is read: its value as a number, its last eight bytes, and whether each of its bytes is a digit.
-#[derive(Clone, Copy)]
-struct Item {
-    value: u64,
-    packed: u64,
-    digits: bool,
+#[derive(Clone, Copy, Debug, PartialEq, Eq)]
+enum Word {
+    Part(Part),
+    // the bytes that inspect shows
+    Shown,
+    Call(Kind),
+    Span,
+    Size,
+    Most,
+    Settings,
+    Lend,
+    Undo,
+    Accepted,
+    Refused,
+    Rest,
+    From,
+    Order,
+    Visible,
+    // second words
+    Is,
+    Kept,
 }
 
-impl Item {
-    const NONE: Item = Item {
-        value: 0,
-        packed: BLANKS,
-        digits: true,
-    };
-}
+impl FromStr for Word {
+    type Err = Fault;
 
-// How far a line is read.
-#[derive(Clone, Copy)]
-pub struct Scan {
-    pub verb: usize,
-    pub word: usize,
-    // how many numbers there are so far
-    pub count: usize,
-    item: Item,
-    // the item is how often another number stands there, and that number
-    times: bool,
-    repeated: u64,
-    // where the verb ends in the script
-    pub end: usize,
-    // the rest of the line is not read
-    comment: bool,
-    // the line is understood so far
-    pub good: bool,
-}
-
-impl Scan {
-    pub const START: Scan = Scan {
-        verb: NONE,
-        word: NONE,
-        count: 0,
-        item: Item::NONE,
-        times: false,
-        repeated: 0,
-        end: 0,
-        comment: false,
-        good: true,
-    };
-}
-
-// A digit of a number is read.
-fn digit(s: Scan, d: u64) -> Scan {
-    let before = s.item.value;
-    let value = std::num::wrapping_add_u64((before % 1844674407370955162) * 10, d);
-    let mut t = s;
-    t.item.value = value;
-    t.good = s.good & (before <= 1844674407370955161) & (before <= value);
-    t
-}
-
-// The last eight of some bytes and one more, as a number.
-fn pack(bytes: u64, b: u8) -> u64 {
-    (bytes % 72057594037927936) * 256 + (b as u64)
-}
-
-// A byte of an item is read. A word has at most eight.
-fn grow(s: Scan, b: u8) -> Scan {
-    let before = s.item.packed;
-    let packed = pack(before, b);
-    let mut t = s;
-    t.item.packed = packed;
-    if (48 <= b) & (b <= 57) & s.item.digits {
-        return digit(t, (b % 48) as u64);
-    }
-    t.good = s.good & (before / 72057594037927936 == 32);
-    t.item.digits = false;
-    t
-}
-
-// The item is a number, as far as its bytes go.
-fn is_number(item: Item) -> bool {
-    item.digits | (item.packed == HYPHEN)
-}
-
-// The number that was read.
-fn value_of(s: Scan) -> u64 {
-    if s.times {
-        return s.repeated;
-    }
-    if s.item.packed == HYPHEN {
-        return 65535;
-    }
-    s.item.value
-}
-
-// How often it stands there.
-fn times_of(s: Scan) -> u64 {
-    if s.times { s.item.value } else { 1 }
-}
-
-// What was read is to stand there as often as what follows says.
-fn star(s: Scan) -> Scan {
-    let none = Item::NONE;
-    let mut t = s;
-    t.good = s.good & !s.times & is_number(s.item) & (s.item.packed != BLANKS);
-    t.repeated = value_of(s);
-    t.times = true;
-    t.item = none;
-    t
-}
-
-// The place of a word among names of eight bytes; their number where it is none of them.
-fn place_of(names: &[u8], packed: u64) -> usize {
-    let mut value: u64 = 0;
-    let mut i: usize = 0;
-    while i < names.len() {
-        value = pack(value, names[i]);
-        if (value == packed) & (i % 8 == 7) {
-            return i / 8;
+    fn from_str(text: &str) -> Result<Word, Fault> {
+        match text {
+            "control" => Ok(Word::Part(Part::Control)),
+            "store" => Ok(Word::Part(Part::Store)),
+            "forward" => Ok(Word::Part(Part::Forward)),
+            "reverse" => Ok(Word::Part(Part::Reverse)),
+            "rows" => Ok(Word::Part(Part::Rows)),
+            "counts" => Ok(Word::Part(Part::Counts)),
+            "buffer" => Ok(Word::Part(Part::Buffer)),
+            "spill" => Ok(Word::Part(Part::Spill)),
+            "acts" => Ok(Word::Part(Part::Acts)),
+            "part" => Ok(Word::Shown),
+            "set-up" => Ok(Word::Call(Kind::SetUp)),
+            "tick" => Ok(Word::Call(Kind::Tick)),
+            "inspect" => Ok(Word::Call(Kind::Inspect)),
+            "read" => Ok(Word::Call(Kind::Read)),
+            "write" => Ok(Word::Call(Kind::Write)),
+            "span" => Ok(Word::Span),
+            "size" => Ok(Word::Size),
+            "most" => Ok(Word::Most),
+            "settings" => Ok(Word::Settings),
+            "lend" => Ok(Word::Lend),
+            "undo" => Ok(Word::Undo),
+            "accepted" => Ok(Word::Accepted),
+            "refused" => Ok(Word::Refused),
+            "rest" => Ok(Word::Rest),
+            "from" => Ok(Word::From),
+            "order" => Ok(Word::Order),
+            "visible" => Ok(Word::Visible),
+            "is" => Ok(Word::Is),
+            "kept" => Ok(Word::Kept),
+            _ => Err(Fault::NotUnderstood),
         }
-        i += 1;
-    }
-    i / 8
-}
-
-// A word ends, before index i of the script.
-fn word(s: Scan, i: usize) -> Scan {
-    let place = place_of(
-        b" control   store forward reverse    rows  counts  buffer   spill    acts    part\
-\x20 set-up    tick inspect    read   write    span    size    most\
-settings    lend    undoaccepted refused    rest    from   order   group visible      is    kept",
-        s.item.packed,
-    );
-    let none = Item::NONE;
-    let mut t = s;
-    t.good = s.good & (place < NONE) & (s.count == 0) & !s.times;
-    t.item = none;
-    if s.verb == NONE {
-        t.verb = place;
-        t.end = i;
-        t.comment = place == GROUP;
-        return t;
-    }
-    t.good = t.good & (s.word == NONE);
-    t.word = place;
-    t
-}
-
-// The largest number that a verb takes as its number i.
-fn largest(verb: usize, i: usize) -> u64 {
-    if (verb == WRITE) & (2 <= i) {
-        return 255;
-    }
-    if (verb == WRITE) & (i == 1) {
-        return 18446744073709551615;
-    }
-    match verb {
-        1 | 6 | 9 | 27 => 255,
-        2 | 3 | 4 => 65535,
-        15 | 16 | 17 => 18446744073709551615,
-        19 => 256,
-        _ => 4294967295,
     }
 }
 
-// How many numbers a verb takes.
-fn takes(verb: usize, count: usize) -> bool {
-    match verb {
-        0 | 17 => count == 4,
-        7 | 8 => count == 16,
-        10 | 11 | 20 | 23 | 25 | 26 => count == 0,
-        12 | 22 => count == 1,
-        13 | 15 | 24 => (count == 1) | (count == 2),
-        14 => 2 <= count,
-        16 | 19 => count == 5,
-        18 => (count == 6) | (count == 7),
-        21 => (count == 0) | (count == 3) | (count == 4),
+impl Word {
+    // The largest number that a verb takes at a place among its numbers.
+    fn largest(self, place: usize) -> u64 {
+        match self {
+            Word::Part(Part::Store | Part::Buffer) | Word::Shown | Word::Visible => {
+                u64::from(u8::MAX)
+            }
+            Word::Part(Part::Forward | Part::Reverse | Part::Rows) => u64::from(u16::MAX),
+            Word::Call(Kind::Write) if place == 1 => u64::MAX,
+            Word::Call(Kind::Write) if place > 1 => u64::from(u8::MAX),
+            Word::Span | Word::Size | Word::Most => u64::MAX,
+            Word::Lend => ROOM as u64,
+            _ => u64::from(u32::MAX),
+        }
+    }
+}
+
+// A part can be told so many values at once.
+fn takes(part: Part, count: usize) -> bool {
+    match part {
+        Part::Control => count == 4,
+        Part::Spill | Part::Acts => count == 16,
         _ => true,
     }
 }
 
-// Puts a value into the numbers of the line, from one place to before another.
-fn put(numbers: &mut Numbers, from: usize, to: usize, value: u64) {
-    let mut i = from;
-    while i < to {
-        numbers[i % 512] = value;
-        i += 1;
+// A number, and how often it stands there.
+struct Repeated {
+    value: u64,
+    times: usize,
+}
+
+// A decimal number. A sign is none of it.
+fn decimal(text: &str) -> Result<u64, Fault> {
+    if text.starts_with('+') {
+        return Err(Fault::NotUnderstood);
+    }
+    text.parse().map_err(|_| Fault::NotUnderstood)
+}
+
+impl FromStr for Repeated {
+    type Err = Fault;
+
+    fn from_str(text: &str) -> Result<Repeated, Fault> {
+        let (value, times) = text.split_once('*').unwrap_or((text, "1"));
+        let value = match value {
+            "-" => u64::from(MARK),
+            digits => decimal(digits)?,
+        };
+        let times = usize::try_from(decimal(times)?)?;
+        Ok(Repeated { value, times })
     }
 }
 
-// A number ends.
-fn number(numbers: &mut Numbers, s: Scan) -> Scan {
-    let value = value_of(s);
-    let n = times_of(s);
-    let to = std::num::wrapping_add_usize(s.count, n as usize);
-    let good = (s.verb != NONE) & is_number(s.item) & (1 <= n) & (n <= 512) & (to <= 512);
-    let none = Item::NONE;
-    let mut t = s;
-    t.good = s.good & good & (value <= largest(s.verb, s.count));
-    t.count = to;
-    t.item = none;
-    t.times = false;
-    if t.good {
-        put(numbers, s.count, to, value);
-    }
-    t
+// Blanks, tabs and carriage returns stand between words and numbers.
+const BLANKS: [char; 3] = [' ', '\t', '\r'];
+
+fn is_blank(byte: u8) -> bool {
+    matches!(byte, b' ' | b'\t' | b'\r')
 }
 
-// The item that is read ends, if there is one, before index i of the script.
-pub fn end_item(numbers: &mut Numbers, s: Scan, i: usize) -> Scan {
-    if (s.item.packed == BLANKS) & !s.times {
-        return s;
+// The name of the group that a line begins: what stands behind `group` and the byte that ends this word. None is no such
+// line.
+pub fn group_name(line: &[u8]) -> Option<&[u8]> {
+    let start = line.iter().position(|byte| !is_blank(*byte))?;
+    let mut halves = line[start..].splitn(2, |byte| is_blank(*byte) || *byte == b'#');
+    if halves.next()? != b"group".as_slice() {
+        return None;
     }
-    if s.times | is_number(s.item) {
-        return number(numbers, s);
-    }
-    word(s, i)
+    Some(halves.next().unwrap_or(&[]))
 }
 
-// Byte b of the line is read, at index i of the script. Blanks, tabs and carriage returns stand between items.
-pub fn eat(numbers: &mut Numbers, s: Scan, b: u8, i: usize) -> Scan {
-    if s.comment {
-        return s;
-    }
-    if b == b'*' {
-        return star(s);
-    }
-    let between = (b == 32) | (b == 9) | (b == 13) | (b == b'#');
-    if !between {
-        return grow(s, b);
-    }
-    let mut t = end_item(numbers, s, i);
-    t.comment = t.comment | (b == b'#');
-    t
+// The words of a line, and how many numbers follow them.
+#[derive(Clone, Copy, Debug)]
+pub struct Sentence {
+    verb: Word,
+    second: Option<Word>,
+    count: usize,
 }
 
-// The line is understood: its words go together, and there are as many numbers as the verb takes.
-pub fn is_good(s: Scan) -> bool {
-    let part = (s.verb < SET_UP) & (s.word == IS);
-    let bare = (s.word == NONE)
-        & (s.verb != REST)
-        & (s.verb != FROM)
-        & (s.verb != VISIBLE)
-        & (s.verb != 9);
-    let told = ((s.verb == REST) & (s.word == KEPT)) | ((s.verb == VISIBLE) & (s.word == IS));
-    let from = (s.verb == FROM) & (SET_UP <= s.word) & (s.word <= WRITE);
-    s.good & (part | bare | told | from) & (s.verb < IS) & takes(s.verb, s.count)
+// What a line expects of the last call.
+#[derive(Clone, Copy)]
+pub enum Expectation<'a> {
+    Accepted,
+    // with this place, slot moved to, row sent home and estimate
+    Answers(Answer),
+    Refused(u64),
+    Is(Part, &'a [u64]),
+    Shown(&'a [u64]),
+    // the numbers, of which the first so many are the line's
+    Visible(&'a Numbers, usize),
+    RestKept,
+}
+
+// What a line says.
+#[derive(Clone, Copy)]
+pub enum Line<'a> {
+    Settings(Settings),
+    Lend {
+        store: usize,
+        forward: usize,
+        reverse: usize,
+        rows: usize,
+        counts: usize,
+    },
+    Put(Part, &'a [u64]),
+    SetUp,
+    Tick,
+    Inspect {
+        row: u32,
+    },
+    Read {
+        row: u32,
+        length: Option<u64>,
+    },
+    Write {
+        row: u32,
+        column: usize,
+        bytes: &'a [u64],
+    },
+    // of a write's bytes where there is a column, else of a read's buffer
+    Span {
+        column: Option<usize>,
+        count: usize,
+    },
+    Size(SizeTimes),
+    Most(RefreshTimes),
+    Expect(Expectation<'a>),
+    Undo,
+    From {
+        first: Kind,
+        number: u64,
+        row: u32,
+    },
+    Order,
+}
+
+impl Sentence {
+    // Reads a line, and puts its numbers into the first places. None is a line that says nothing.
+    pub fn read(line: &[u8], numbers: &mut Numbers) -> Result<Option<Sentence>, Fault> {
+        let code = line.split(|byte| *byte == b'#').next().unwrap_or(line);
+        let Ok(code) = str::from_utf8(code) else {
+            return Err(Fault::NotUnderstood);
+        };
+        let mut items = code.split(BLANKS).filter(|item| !item.is_empty());
+        let Some(verb) = items.next() else {
+            return Ok(None);
+        };
+        let verb: Word = verb.parse()?;
+        let mut second = None;
+        let mut count = 0usize;
+        for item in items {
+            if let Ok(Repeated { value, times }) = item.parse() {
+                if times == 0 || value > verb.largest(count) {
+                    return Err(Fault::NotUnderstood);
+                }
+                let end = count.saturating_add(times);
+                let Some(places) = numbers.get_mut(count..end) else {
+                    return Err(Fault::NotUnderstood);
+                };
+                places.fill(value);
+                count = end;
+            } else if count == 0 && second.is_none() {
+                second = Some(item.parse()?);
+            } else {
+                return Err(Fault::NotUnderstood);
+            }
+        }
+        Ok(Some(Sentence {
+            verb,
+            second,
+            count,
+        }))
+    }
+
+    // What it says, where its words go together and there are as many numbers as the verb takes.
+    pub fn line<'a>(&self, numbers: &'a Numbers) -> Result<Line<'a>, Fault> {
+        let Some(values) = numbers.get(..self.count) else {
+            return Err(Fault::NotUnderstood);
+        };
+        Ok(match (self.verb, self.second, values) {
+            (Word::Settings, None, [n, q, w, k, a, l]) => {
+                Line::Settings(settings([*n, *q, *w, *k, *a, *l, 1])?)
+            }
+            (Word::Settings, None, [n, q, w, k, a, l, b]) => {
+                Line::Settings(settings([*n, *q, *w, *k, *a, *l, *b])?)
+            }
+            (Word::Lend, None, [store, forward, reverse, rows, counts]) => Line::Lend {
+                store: usize::try_from(*store)?,
+                forward: usize::try_from(*forward)?,
+                reverse: usize::try_from(*reverse)?,
+                rows: usize::try_from(*rows)?,
+                counts: usize::try_from(*counts)?,
+            },
+            (Word::Part(part), None, values) if takes(part, values.len()) => {
+                Line::Put(part, values)
+            }
+            (Word::Call(Kind::SetUp), None, []) => Line::SetUp,
+            (Word::Call(Kind::Tick), None, []) => Line::Tick,
+            (Word::Call(Kind::Inspect), None, [row]) => Line::Inspect {
+                row: u32::try_from(*row)?,
+            },
+            (Word::Call(Kind::Read), None, [row]) => Line::Read {
+                row: u32::try_from(*row)?,
+                length: None,
+            },
+            (Word::Call(Kind::Read), None, [row, length]) => Line::Read {
+                row: u32::try_from(*row)?,
+                length: Some(*length),
+            },
+            (Word::Call(Kind::Write), None, [row, column, bytes @ ..]) => Line::Write {
+                row: u32::try_from(*row)?,
+                column: usize::try_from(*column)?,
+                bytes,
+            },
+            (Word::Span, None, [count]) => Line::Span {
+                column: None,
+                count: usize::try_from(*count)?,
+            },
+            (Word::Span, None, [column, count]) => Line::Span {
+                column: Some(usize::try_from(*column)?),
+                count: usize::try_from(*count)?,
+            },
+            (Word::Size, None, [trefw, trc, tmov, banks, threshold]) => Line::Size(SizeTimes {
+                trefw: *trefw,
+                trc: *trc,
+                tmov: *tmov,
+                banks: *banks,
+                threshold: *threshold,
+            }),
+            (Word::Most, None, [trefw, trc, trefi, trfc]) => Line::Most(RefreshTimes {
+                trefw: *trefw,
+                trc: *trc,
+                trefi: *trefi,
+                trfc: *trfc,
+            }),
+            (Word::Accepted, None, []) => Line::Expect(Expectation::Accepted),
+            (Word::Accepted, None, [place, slot, row]) => {
+                Line::Expect(Expectation::Answers(accepted(*place, *slot, *row, 0)))
+            }
+            (Word::Accepted, None, [place, slot, row, estimate]) => {
+                Line::Expect(Expectation::Answers(accepted(*place, *slot, *row, *estimate)))
+            }
+            (Word::Refused, None, [number]) => Line::Expect(Expectation::Refused(*number)),
+            (Word::Part(part), Some(Word::Is), values) if takes(part, values.len()) => {
+                Line::Expect(Expectation::Is(part, values))
+            }
+            (Word::Shown, Some(Word::Is), values) => Line::Expect(Expectation::Shown(values)),
+            (Word::Visible, Some(Word::Is), values) => {
+                Line::Expect(Expectation::Visible(numbers, values.len()))
+            }
+            (Word::Rest, Some(Word::Kept), []) => Line::Expect(Expectation::RestKept),
+            (Word::Undo, None, []) => Line::Undo,
+            (Word::From, Some(Word::Call(first)), [number]) => Line::From {
+                first,
+                number: *number,
+                row: 0,
+            },
+            (Word::From, Some(Word::Call(first)), [number, row]) => Line::From {
+                first,
+                number: *number,
+                row: u32::try_from(*row)?,
+            },
+            (Word::Order, None, []) => Line::Order,
+            _ => return Err(Fault::NotUnderstood),
+        })
+    }
+}
+
+fn settings(numbers: [u64; 7]) -> Result<Settings, Fault> {
+    let [n, q, w, k, a, l, b] = numbers;
+    Ok(Settings {
+        n: u32::try_from(n)?,
+        q: u32::try_from(q)?,
+        w: u32::try_from(w)?,
+        k: u32::try_from(k)?,
+        a: u32::try_from(a)?,
+        l: u32::try_from(l)?,
+        b: u32::try_from(b)?,
+    })
+}
+
+// The answer of an accepted access, or of a sum, which has no estimate.
+fn accepted(place: u64, slot: u64, row: u64, estimate: u64) -> Answer {
+    Answer {
+        place,
+        slot,
+        row,
+        estimate,
+        ..Answer::of_number(0)
+    }
 }

@@ -90,12 +90,12 @@ module _ (S : Settings) (σ : State) (r : ℕ) (some : 1 ≤ S.b) (rows_long : l
   pub tracked_rows_long : length (tracked S σ r).rows ≡ S.k
   tracked_rows_long =
       let t : Tracker = tracker_at S σ p in
-      (track_long p t.rows t.counts t.spill entries_alike).0 ∙ long_of σ.rows rows_long
+      (track_long p t.rows t.counts t.spill).0 ∙ long_of σ.rows rows_long
 
   pub tracked_counts_long : length (tracked S σ r).counts ≡ S.k
   tracked_counts_long =
       let t : Tracker = tracker_at S σ p in
-      (track_long p t.rows t.counts t.spill entries_alike).1 ∙ long_of σ.counts counts_long
+      (track_long p t.rows t.counts t.spill).1 ∙ long_of σ.counts counts_long
 
   -- the entries of a row's bank
   module _ (x : ℕ) where

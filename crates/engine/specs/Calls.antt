@@ -1,13 +1,13 @@
 -- Document 01: each call, for any settings, arguments and lent memory: what it leaves and what it answers.
 -- These are the definitions that the engine's promises cite and that `history` folds over.
 -- Assumes nothing.
-use Rattle.std.specs.Prelude.{ℕ, ◌*◌, cond, List, [], ◌++◌, eqb, length, drop, replicate}
+use Rattle.std.specs.Prelude.{ℕ, ◌*◌, Ok, Err, cond, List, [], ◌++◌, eqb, length, drop, replicate}
 use Rattle.geometry.specs.declared.Settings.{Settings}
 use Rattle.geometry.specs.Numbering.{physical}
 use Rattle.geometry.specs.Entry.{empty}
 use Rattle.row_layout.specs.Bytes.{row_bytes, written}
-use Rattle.engine.specs.declared.Reply.{Reply}
-use Rattle.engine.specs.declared.Reply.TheVariants.{Refused, Done}
+use Rattle.engine.specs.declared.Served.{Served}
+use Rattle.engine.specs.Answer.{Reply}
 use Rattle.engine.specs.State.{State, tables_of, new_control}
 use Rattle.engine.specs.Steps.{place, tracked, move, state_after}
 use Rattle.engine.specs.Ladder.{set_up_number, tick_number, inspect_number, access_number, read_asked, write_asked}
@@ -71,17 +71,18 @@ pub record Accessed : Type 0 where
   pub answer : Reply
   pub buffer : List ℕ
 
+-- what an accepted access of row r answers: 'An answer gives p, the slot moved to or none, and the row sent home or none.' 'The
+-- tracker shall give, and the access shall hand on, the estimate after the access' (document 02, Ask 2)
+abbrev pub served : Settings → State → ℕ → Served
+served S σ r = record { place = physical (place S σ r); estimate = (tracked S σ r).estimate; moved = move S σ r }
+
 -- an access of row r with that number: the effect where it is 0, and where it is not 'Control record and all lent memory
--- remain as before the call, the read buffer too'. store: the store after step 3; filled: the buffer if it is accepted.
--- 'The tracker shall give, and the access shall hand on, the estimate after the access' (document 02, Ask 2)
+-- remain as before the call, the read buffer too'. store: the store after step 3; filled: the buffer if it is accepted
 unfoldable pub accessed : Settings → State → ℕ → ℕ → List ℕ → List ℕ → List ℕ → Accessed
 accessed S σ r number store filled buffer =
     record {
       state = cond (eqb number 0) (state_after S σ r store) σ;
-      answer =
-          cond (eqb number 0)
-          (Done (physical (place S σ r)) (tracked S σ r).estimate (move S σ r))
-          (Refused number);
+      answer = cond (eqb number 0) (Ok (served S σ r)) (Err number);
       buffer = cond (eqb number 0) filled buffer;
     }
 

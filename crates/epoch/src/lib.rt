@@ -1,23 +1,19 @@
-// What begins an epoch: set-up and tick, with the control record by value. Each answers for any settings and lent memory;
-// where it refuses, nothing lent is written.
+// What begins an epoch: set-up and tick, with the control record by value: a call answers the record after it. Each answers
+// for any settings and lent memory; where it refuses, nothing lent is written. The parameters are those of the C functions.
 #![tactic(auto)]
 
 ghost use Rattle.std.specs.Prelude.{◌≡◌, ◌≤◌};
+ghost use Rattle.refusals.specs.Refusals.{number_in};
 ghost use Rattle.banks.specs.Banks.{most_banks};
 ghost use Rattle.engine.specs.State.{state_of};
 ghost use Rattle.engine.specs.Calls.{noted_of, set_up, zero_below, tick};
+ghost use Rattle.epoch.specs.After.{control_after};
 
-use geometry::{Control, Settings};
+use geometry::{Control, Entry, Settings};
+use refusals::Refusal;
 
-// The number of a call, and the control record after it.
-#[derive(Clone, Copy)]
-pub struct Numbered {
-    pub number: u32,
-    pub control: Control,
-}
-
-// Set-up: returns its number, and makes everything lent but the store as new where it is 0.
-#[tactic(auto, using(crate::proofs::Serves::set_up_told))]
+// Set-up: makes everything lent but the store as new. Of the record before it the promise alone speaks.
+#[tactic(auto, using(crate::proofs::Serves::set_ups))]
 pub fn set_up(
     control: Control,
     s: Settings,
@@ -26,40 +22,31 @@ pub fn set_up(
     reverse: &mut [u16],
     rows: &mut [u16],
     counts: &mut [u32],
-) -> Numbered
+) -> Result<Control, Refusal>
     ensures { let before = state_of store.now forward.old reverse.old rows.old counts.old control in
-        let after = state_of store.now forward.new reverse.new rows.new counts.new result.control in
-        noted_of after result.number ≡ set_up s before }
+        let after = state_of store.now forward.new reverse.new rows.new counts.new (control_after control result) in
+        noted_of after (number_in result) ≡ set_up s before }
 {
     let lengths = geometry::lengths_of(store, forward, reverse, rows, counts);
-    let unfit = ladder::fit_number(s, lengths);
-    if unfit != 0 {
-        return Numbered {
-            number: unfit,
-            control: control,
-        };
-    }
-    geometry::clear_entries(forward);
-    geometry::clear_entries(reverse);
+    ladder::check_fit(s, lengths)?;
+    forward.fill(Entry::EMPTY.0);
+    reverse.fill(Entry::EMPTY.0);
     tracker::reset(rows, counts);
-    Numbered {
-        number: 0,
-        control: geometry::NEW,
-    }
+    Ok(geometry::NEW)
 }
 
 // Returns the numbers of the banks with those of the first b banks 0.
 #[tactic(auto, unfolding(engine::specs::Calls::zero_below))]
-fn zero_below(numbers: [u32; 16], b: usize) -> [u32; 16]
+fn zero_below(mut numbers: [u32; 16], b: usize) -> [u32; 16]
     requires { b ≤ most_banks }
     ensures { result ≡ zero_below b numbers }
 {
-    let mut next = numbers;
-    tracker::clear_numbers(&mut next[..b]);
-    next
+    numbers[..b].fill(0);
+    numbers
 }
 
-// Tick: returns its number, and makes the trackers as new where it is 0.
+// Tick: makes the trackers as new.
+#[tactic(auto, using(crate::proofs::Serves::ticks))]
 pub fn tick(
     control: Control,
     s: Settings,
@@ -68,32 +55,19 @@ pub fn tick(
     reverse: &[u16],
     rows: &mut [u16],
     counts: &mut [u32],
-) -> Numbered
+) -> Result<Control, Refusal>
     ensures { let before = state_of store.now forward.now reverse.now rows.old counts.old control in
-        let after = state_of store.now forward.now reverse.now rows.new counts.new result.control in
-        noted_of after result.number ≡ tick s before }
+        let after = state_of store.now forward.now reverse.now rows.new counts.new (control_after control result) in
+        noted_of after (number_in result) ≡ tick s before }
 {
     let lengths = geometry::lengths_of(store, forward, reverse, rows, counts);
-    let number = ladder::control_number(s, lengths, control, counts);
-    if number != 0 {
-        return Numbered {
-            number: number,
-            control: control,
-        };
-    }
+    ladder::check_control(s, lengths, control, counts)?;
     tracker::reset(rows, counts);
     let b = s.b as usize;
-    let spill = control.spill;
-    let acts = control.acts;
-    let next_spill = zero_below(spill, b);
-    let next_acts = zero_below(acts, b);
-    Numbered {
-        number: 0,
-        control: Control {
-            head: control.head,
-            passed: 0,
-            spill: next_spill,
-            acts: next_acts,
-        },
-    }
+    Ok(Control {
+        head: control.head,
+        passed: 0,
+        spill: zero_below(control.spill, b),
+        acts: zero_below(control.acts, b),
+    })
 }

@@ -2,9 +2,15 @@
 #![tactic(auto)]
 
 ghost use Rattle.std.specs.Prelude.{◌≡◌};
+ghost use Rattle.refusals.specs.Refusals.{numbered};
+ghost use Rattle.figures.specs.Outcome.{outcome_of};
 ghost use Rattle.figures.specs.Sum.{sum_of};
 
-use sizing::Figure;
+use engine::{Move, Served};
+use refusals::Refusal;
+
+// The mark for none in an answer.
+const NONE: u32 = 65535;
 
 // The answer of a read or a write, in numbers.
 #[repr(C)]
@@ -20,6 +26,37 @@ pub struct Outcome {
     pub estimate: u32,
     // the place that the row had, 0 in a refusal
     pub place: u64,
+}
+
+// A refused access has none, and 0 in every other figure but the number.
+impl From<Result<Served, Refusal>> for Outcome {
+    ghost from_gives = { λ reply outcome. outcome ≡ outcome_of (numbered reply) };
+
+    fn from(reply: Result<Served, Refusal>) -> Outcome {
+        match reply {
+            Ok(served) => {
+                let (slot, row) = match served.moved {
+                    Move::Stayed => (NONE, NONE),
+                    Move::ToSlot(slot) => (slot.0 as u32, NONE),
+                    Move::OverSlot(slot, row) => (slot.0 as u32, row.0 as u32),
+                };
+                Outcome {
+                    number: 0,
+                    slot,
+                    row,
+                    estimate: served.estimate,
+                    place: served.place.0,
+                }
+            }
+            Err(refusal) => Outcome {
+                number: refusal.number(),
+                slot: NONE,
+                row: NONE,
+                estimate: 0,
+                place: 0,
+            },
+        }
+    }
 }
 
 // Where inspect's part lies in the store, for callers that cannot take a slice.
@@ -40,12 +77,17 @@ pub struct Sum {
     pub value: u64,
 }
 
-// Returns the numbers of a sizing sum.
-pub fn sum_of(f: Figure) -> Sum
-    ensures { result ≡ sum_of f }
-{
-    Sum {
-        number: sizing::number(f),
-        value: sizing::value(f),
+// A refused sum has the value 0.
+impl From<Result<u64, Refusal>> for Sum {
+    ghost from_gives = { λ answer sum. sum ≡ sum_of answer };
+
+    fn from(answer: Result<u64, Refusal>) -> Sum {
+        match answer {
+            Ok(value) => Sum { number: 0, value },
+            Err(refusal) => Sum {
+                number: refusal.number(),
+                value: 0,
+            },
+        }
     }
 }

@@ -5,8 +5,8 @@
 ghost use Rattle.std.specs.Prelude.{◌≡◌};
 ghost use Rattle.geometry.specs.Lent.{lengths_in};
 
-pub use entry::{EMPTY, ForwardEntry, ReverseEntry, clear_entries, place};
-pub use numbering::{PhysicalRow, Slot, VisibleRow, home, slot_row};
+pub use entry::{Entry, place};
+pub use numbering::{Number, PhysicalRow, Slot, VisibleRow, home, slot_row};
 
 mod entry;
 mod numbering;

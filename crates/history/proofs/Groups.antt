@@ -6,15 +6,14 @@ use mathlib.Core.Bool.{false}
 use mathlib.Core.List.{List, []}
 use lib.Dec.{eqb}
 use lib.ListN.{length}
+use Rattle.std.specs.Prelude.{Ok}
 use borrow.Author.Tests.{eq-eqb, ne_eqb, eqb-true, eqb-false, ltb-false}
 use Rattle.geometry.specs.declared.Settings.{Settings}
-use Rattle.geometry.specs.Numbering.{physical}
 use Rattle.basics.proofs.Cases.{split}
 use Rattle.row_layout.specs.Bytes.{row_bytes, written}
-use Rattle.engine.specs.declared.Reply.TheVariants.{Done}
 use Rattle.engine.specs.State.{State}
 use Rattle.engine.specs.Answer.{number_of}
-use Rattle.engine.specs.Steps.{place, tracked, move, state_after}
+use Rattle.engine.specs.Steps.{place, state_after}
 use Rattle.engine.specs.Ladder.{tick_number, access_number}
 use Rattle.engine.specs.Calls as calls
 use Rattle.engine.proofs.Facts.{tick_not_9, inspect_not_9}
@@ -101,7 +100,7 @@ module _ (S : Settings) (σ : State) where
       of_access
       (record {
         state = state_after S σ (row_of a) (store_by S σ a);
-        answer = Done (physical (place S σ (row_of a))) (tracked S σ (row_of a)).estimate (move S σ (row_of a));
+        answer = Ok (calls.served S σ (row_of a));
         buffer = filled_by S σ a;
       })
   accepted_step (rank (look x)) = record { state = σ; answer = figureless 0 [] }

@@ -8,45 +8,30 @@ ghost use Rattle.input.specs.Input.{next_of, bytes_read};
 use std::io;
 use std::io::Read;
 
-// What reading gave: a read failed, and why, or so many bytes stand at the start of the lent buffer.
-#[derive(Clone, Copy)]
-pub enum Input {
-    Failed(io::Error),
-    Read(usize),
-}
-
-// What follows a read: reading is over, or so many bytes more stand in the buffer.
-#[derive(Clone, Copy)]
-enum Next {
-    Over(Input),
-    More(usize),
-}
-
-// Tells what follows a read by what it answered, where `done` bytes came before it.
+// How many bytes more stand in the buffer after a read that gave this answer; none at the end of the input.
 #[tactic(auto, unfolding(crate::specs::Input::next_of))]
-fn judge(done: usize, answer: io::Result<usize>) -> Next
-    ensures { result ≡ next_of done answer }
+fn next(answer: io::Result<usize>) -> io::Result<Option<usize>>
+    ensures { result ≡ next_of answer }
 {
-    match answer {
-        Err(error) => Next::Over(Input::Failed(error)),
-        Ok(0) => Next::Over(Input::Read(done)),
-        Ok(taken) => Next::More(taken),
+    match answer? {
+        0 => Ok(None),
+        taken => Ok(Some(taken)),
     }
 }
 
-// Reads until the buffer is full, the input ends or a read fails.
+// Reads until the buffer is full, the input ends or a read fails, and returns how many bytes stand at the start of the buffer.
 #[tactic(auto, unfolding(crate::specs::Input::next_of))]
-pub fn read_all<R: Read>(reader: &mut R, buffer: &mut [u8]) -> Input
+pub fn read_all<R: Read>(reader: &mut R, buffer: &mut [u8]) -> io::Result<usize>
     ensures { bytes_read result ≤ length buffer.new }
 {
     let mut done: usize = 0;
+    // Kept: it counts bytes that came, and no index. A `for` would count the reads, which nothing asks for.
     while done < buffer.len() {
         let answer = reader.read(&mut buffer[done..]);
-        let next = judge(done, answer);
-        match next {
-            Next::Over(input) => return input,
-            Next::More(count) => done += count,
+        match next(answer)? {
+            None => break,
+            Some(count) => done += count,
         }
     }
-    Input::Read(done)
+    Ok(done)
 }

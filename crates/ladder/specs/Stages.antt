@@ -1,6 +1,6 @@
 -- The fourth row of the table in the two parts in which the code judges it: the first bank, then the others.
 -- Assumes nothing.
-use Rattle.std.specs.Prelude.{ℕ, suc, ◌-◌, ◌≤◌, ◌≡◌, Bool, ◌||◌, List, length, take}
+use Rattle.std.specs.Prelude.{ℕ, suc, ◌-◌, Bool, ◌||◌, List, take}
 use Rattle.geometry.specs.declared.Settings.{Settings}
 use Rattle.geometry.specs.declared.Ring.{Ring}
 use Rattle.basics.specs.Ranges.{some_below}
@@ -13,12 +13,3 @@ first_unsound S ring spill acts counts = ring_unsound S ring || tracker_unsound 
 -- 4 applies because of a bank from the second on (spill, acts: by bank)
 unfoldable pub others_unsound : Settings → List ℕ → List ℕ → List ℕ → Bool
 others_unsound S spill acts counts = some_below (λ c. bank_unsound S spill acts counts (suc c)) (S.b - 1)
-
--- ---- what the code asks once 1 to 3 let pass
-
--- of the tables
-pub record Tabled (S : Settings) (forward reverse : List ℕ) : Type 0 where
-  pub rows_few : S.n ≤ 60000
-  pub slots_few : S.q ≤ 5500
-  pub forward_long : length forward ≡ S.n
-  pub reverse_long : length reverse ≡ S.q

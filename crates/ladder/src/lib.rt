@@ -2,45 +2,44 @@
 // lent is written here.
 #![tactic(auto)]
 
-ghost use Rattle.std.specs.Prelude.{◌≡◌, not, ◌*◌, ◌≤◌, ◌<◌, length, get_or};
-ghost use Rattle.geometry.specs.Entry.{empty};
+ghost use Rattle.std.specs.Prelude.{◌≡◌, ◌*◌, ◌≤◌, length, get_or};
+ghost use Rattle.refusals.specs.Refusals.{number_in};
+ghost use Rattle.geometry.specs.Entry.{empty, slot_of, row_of};
 ghost use Rattle.banks.specs.Banks.{most_banks};
 ghost use Rattle.engine.specs.State.{tables_in};
-ghost use Rattle.engine.specs.Ladder.{settings_number, fit_number, ring_unsound, tracker_unsound, control_number};
+ghost use Rattle.engine.specs.Ladder.{settings_number, fit_number, ring_unsound, tracker_unsound, control_unsound, control_number};
 ghost use Rattle.engine.specs.Ladder.{read_asked, write_asked, write_off, look_asked};
 ghost use Rattle.engine.specs.Ladder.{points_back, destination_unsound, row_number};
-ghost use Rattle.ladder.specs.Stages.{first_unsound, others_unsound, Tabled};
+ghost use Rattle.ladder.specs.Stages.{first_unsound, others_unsound};
 
 use engine::Asked;
-use geometry::{Control, ForwardEntry, Lengths, ReverseEntry, Ring, Settings, Slot, VisibleRow};
+use geometry::{Control, Entry, Lengths, Ring, Settings, Slot, VisibleRow};
+use refusals::Refusal;
 
-// Returns the number of the settings: 1 where one is outside its range, 2 where L is too large, else 0.
+// Refuses settings: with 1 where one is outside its range, with 2 where L is too large.
 #[tactic(auto, using(crate::proofs::Rules::rungs), unfolding(engine::specs::Ladder::settings_number))]
-pub fn settings_number(s: Settings) -> u32
-    ensures { result ≡ settings_number s }
+pub fn check_settings(s: Settings) -> Result<(), Refusal>
+    ensures { number_in result ≡ settings_number s }
 {
     if !conditions::ranges_hold(s) {
-        return engine::SETTINGS;
+        return Err(Refusal::Settings);
     }
     if !conditions::limit_holds(s) {
-        return engine::TOGETHER;
+        return Err(Refusal::Together);
     }
-    0
+    Ok(())
 }
 
-// Returns 1, 2 or 3 where the settings or a length are refused, else 0: the number of a set-up.
+// Refuses settings and lengths, with 1, 2 or 3: what a set-up has to pass.
 #[tactic(auto, using(crate::proofs::Rules::rungs), unfolding(engine::specs::Ladder::fit_number))]
-pub fn fit_number(s: Settings, lengths: Lengths) -> u32
-    ensures { result ≡ fit_number s lengths }
+pub fn check_fit(s: Settings, lengths: Lengths) -> Result<(), Refusal>
+    ensures { number_in result ≡ fit_number s lengths }
 {
-    let number = settings_number(s);
-    if number != 0 {
-        return number;
-    }
+    check_settings(s)?;
     if !conditions::lengths_hold(s, lengths) {
-        return engine::BUFFERS;
+        return Err(Refusal::Buffers);
     }
-    0
+    Ok(())
 }
 
 // Tells whether 4 applies because of `head` or `passed`.
@@ -48,7 +47,7 @@ pub fn fit_number(s: Settings, lengths: Lengths) -> u32
 fn ring_unsound(s: Settings, ring: Ring) -> bool
     ensures { result ≡ ring_unsound s ring }
 {
-    (s.q <= ring.head) | (s.q < ring.passed)
+    s.q <= ring.head || s.q < ring.passed
 }
 
 // Tells whether 4 applies because of a bank's numbers.
@@ -56,32 +55,26 @@ fn ring_unsound(s: Settings, ring: Ring) -> bool
 fn tracker_unsound(s: Settings, spill: u32, acts: u32, counts: &[u32]) -> bool
     ensures { result ≡ tracker_unsound s spill acts counts.now }
 {
-    (s.l < acts) | (acts < spill) | (s.a <= spill) | count_scan::any_above(counts, acts)
+    s.l < acts || acts < spill || s.a <= spill || scan::any_above(counts, acts)
 }
 
 // Tells whether 4 applies because of the numbers of some bank from the second on. With one bank, the usual case, it
-// does not.
+// does not. (Kept: B's range stands in contracts here and in `banks`, since `Settings` is C's struct and holds any numbers.)
 #[tactic(auto, unfolding(crate::specs::Stages::others_unsound))]
 pub fn others_unsound(s: Settings, control: Control, counts: &[u32]) -> bool
     requires { (1 ≤ s.b) × (s.b ≤ most_banks) × (length counts.now ≡ s.b * s.k) }
     ensures { result ≡ others_unsound s control.spill control.acts counts.now }
 {
-    if s.b == 1 {
-        return false;
-    }
-    let spill = control.spill;
-    let acts = control.acts;
     let k = s.k as usize;
-    let b = s.b as usize;
-    let mut found = false;
-    let mut bank: usize = 1;
-    while bank < b {
+    (1..s.b as usize).any(|bank| {
         let from = bank * k;
-        let to = from + k;
-        found = found | tracker_unsound(s, spill[bank], acts[bank], &counts[from..to]);
-        bank += 1;
-    }
-    found
+        tracker_unsound(
+            s,
+            control.spill[bank],
+            control.acts[bank],
+            &counts[from..from + k],
+        )
+    })
 }
 
 // Tells whether 4 applies because of `head`, `passed` or the first bank. spill, acts: of the first bank.
@@ -91,27 +84,41 @@ pub fn first_unsound(s: Settings, ring: Ring, spill: u32, acts: u32, counts: &[u
     ensures { result ≡ first_unsound s ring spill acts counts.now }
 {
     let k = s.k as usize;
-    ring_unsound(s, ring) | tracker_unsound(s, spill, acts, &counts[..k])
+    ring_unsound(s, ring) || tracker_unsound(s, spill, acts, &counts[..k])
 }
 
-// Returns the first of 1 to 4 that applies, or 0: the number of a tick, and what every call but set-up has to pass.
-pub fn control_number(s: Settings, lengths: Lengths, control: Control, counts: &[u32]) -> u32
-    requires { length counts.now ≡ lengths.counts }
-    ensures { result ≡ control_number s lengths control counts.now }
+// Tells whether 4 applies.
+#[tactic(auto, using(crate::proofs::Stages::control_parts))]
+fn control_unsound(s: Settings, control: Control, counts: &[u32]) -> bool
+    requires { (1 ≤ s.b) × (s.b ≤ most_banks) × (length counts.now ≡ s.b * s.k) }
+    ensures { result ≡ control_unsound s control counts.now }
 {
-    let number = fit_number(s, lengths);
-    if number != 0 {
-        return number;
-    }
     let ring = Ring {
         head: control.head,
         passed: control.passed,
     };
-    let first = first_unsound(s, ring, control.spill[0], control.acts[0], counts);
-    if first | others_unsound(s, control, counts) {
-        return engine::CONTROL;
+    first_unsound(s, ring, control.spill[0], control.acts[0], counts)
+        || others_unsound(s, control, counts)
+}
+
+// Refuses with the first of 1 to 4 that applies: what a tick has to pass, and every call but set-up. It takes the record of 136
+// bytes, which goes through memory where this is not inlined.
+#[tactic(auto, using(crate::proofs::Rules::rungs, crate::proofs::Stages::fit_counts), unfolding(engine::specs::Ladder::control_number))]
+#[inline(always)]
+pub fn check_control(
+    s: Settings,
+    lengths: Lengths,
+    control: Control,
+    counts: &[u32],
+) -> Result<(), Refusal>
+    requires { length counts.now ≡ lengths.counts }
+    ensures { number_in result ≡ control_number s lengths control counts.now }
+{
+    check_fit(s, lengths)?;
+    if control_unsound(s, control, counts) {
+        return Err(Refusal::Control);
     }
-    0
+    Ok(())
 }
 
 // Returns what a read with a buffer of that length asks of a row.
@@ -119,8 +126,8 @@ pub fn read_asked(s: Settings, row: u32, count: usize) -> Asked
     ensures { result ≡ read_asked s row count }
 {
     Asked {
-        row: row,
-        off: !(count == (s.w as usize)),
+        row,
+        off: count != (s.w as usize),
     }
 }
 
@@ -129,10 +136,7 @@ fn write_off(s: Settings, column: usize, count: usize) -> bool
     ensures { result ≡ write_off s column count }
 {
     let w = s.w as usize;
-    if w < column {
-        return true;
-    }
-    w - column < count
+    w < column || w - column < count
 }
 
 // Returns what a write of so many bytes from that column on asks of a row.
@@ -140,7 +144,7 @@ pub fn write_asked(s: Settings, row: u32, column: usize, count: usize) -> Asked
     ensures { result ≡ write_asked s row column count }
 {
     Asked {
-        row: row,
+        row,
         off: write_off(s, column, count),
     }
 }
@@ -149,82 +153,66 @@ pub fn write_asked(s: Settings, row: u32, column: usize, count: usize) -> Asked
 pub fn look_asked(row: u32) -> Asked
     ensures { result ≡ look_asked row }
 {
-    Asked {
-        row: row,
-        off: false,
+    Asked { row, off: false }
+}
+
+// Returns an entry of a pointer table: empty past the table's end.
+fn entry_at(table: &[u16], at: usize) -> Entry
+    ensures { result.0 ≡ get_or table.now at empty }
+{
+    match table.get(at) {
+        Some(entry) => Entry(*entry),
+        None => Entry::EMPTY,
     }
 }
 
-// Returns a row's forward entry: empty past the table's end.
-pub fn forward_of(forward: &[u16], row: u32) -> ForwardEntry
-    ensures { result.0 ≡ get_or forward.now row empty }
+// Returns what a row's forward entry names. (Kept as two: each takes the numbering that its table is indexed by.)
+pub fn forward_of(forward: &[u16], row: u32) -> Option<Slot>
+    ensures { result ≡ slot_of (get_or forward.now row empty) }
 {
-    let at = row as usize;
-    if at < forward.len() {
-        return ForwardEntry(forward[at]);
-    }
-    ForwardEntry::EMPTY
+    entry_at(forward, row as usize).named()
 }
 
-// Returns a slot's reverse entry.
-pub fn reverse_of(reverse: &[u16], slot: Slot) -> ReverseEntry
-    requires { slot.0 < length reverse.now }
-    ensures { result.0 ≡ get_or reverse.now slot.0 empty }
+// Returns what a slot's reverse entry names.
+pub fn reverse_of(reverse: &[u16], slot: Slot) -> Option<VisibleRow>
+    ensures { result ≡ row_of (get_or reverse.now slot.0 empty) }
 {
-    let at = slot.0 as usize;
-    ReverseEntry(reverse[at])
+    entry_at(reverse, slot.0 as usize).named()
 }
 
-// Tells whether 7 applies because of the pointers of a row with that forward entry.
+// Tells whether an entry of one table is empty, or below `limit` and `own` is what the other table has for it.
 #[tactic(auto, unfolding(engine::specs::Ladder::points_back))]
-fn row_unsound(s: Settings, row: VisibleRow, entry: ForwardEntry, reverse: &[u16]) -> bool
-    requires { length reverse.now ≡ s.q }
-    ensures { result ≡ not (points_back entry.0 s.q reverse.now row.0) }
+fn points_back(entry: Entry, limit: u32, other: &[u16], own: u16) -> bool
+    ensures { result ≡ points_back entry.0 limit other.now own }
 {
-    if entry.is_empty() {
-        return false;
-    }
-    let slot = entry.slot();
-    if s.q <= (slot.0 as u32) {
-        return true;
-    }
-    let back = reverse_of(reverse, slot);
-    back.0 != row.0
+    entry == Entry::EMPTY
+        || (u32::from(entry.0) < limit && entry_at(other, usize::from(entry.0)).0 == own)
 }
 
 // Tells whether 7 applies because of the pointers of a slot that is a destination.
-#[tactic(auto, unfolding(engine::specs::Ladder::destination_unsound, engine::specs::Ladder::points_back))]
+#[tactic(auto, unfolding(engine::specs::Ladder::destination_unsound))]
 pub fn destination_unsound(s: Settings, d: Slot, forward: &[u16], reverse: &[u16]) -> bool
-    requires { Tabled s forward.now reverse.now × (d.0 < s.q) }
     ensures { result ≡ destination_unsound s (tables_in forward reverse) d.0 }
 {
-    let entry = reverse_of(reverse, d);
-    if entry.is_empty() {
-        return false;
-    }
-    let row = entry.row();
-    if s.n <= (row.0 as u32) {
-        return true;
-    }
-    let back = forward_of(forward, row.0 as u32);
-    back.0 != d.0
+    let entry = entry_at(reverse, d.0 as usize);
+    !points_back(entry, s.n, forward, d.0)
 }
 
-// Returns the first of 5, 6 and 7 (row's pointers) that applies, or 0.
+// Refuses with the first of 5, 6 and 7 (row's pointers) that applies.
 #[tactic(auto, using(crate::proofs::Rules::rungs), unfolding(engine::specs::Ladder::row_number, engine::specs::Ladder::row_unsound))]
-pub fn row_number(s: Settings, asked: Asked, forward: &[u16], reverse: &[u16]) -> u32
-    requires { Tabled s forward.now reverse.now }
-    ensures { result ≡ row_number s (tables_in forward reverse) asked }
+pub fn check_row(s: Settings, asked: Asked, forward: &[u16], reverse: &[u16]) -> Result<(), Refusal>
+    requires { s.n ≤ 60000 }
+    ensures { number_in result ≡ row_number s (tables_in forward reverse) asked }
 {
-    let entry = forward_of(forward, asked.row);
     if s.n <= asked.row {
-        return engine::ROW;
+        return Err(Refusal::Row);
     }
     if asked.off {
-        return engine::SPAN;
+        return Err(Refusal::Span);
     }
-    if row_unsound(s, VisibleRow(asked.row as u16), entry, reverse) {
-        return engine::POINTERS;
+    let entry = entry_at(forward, asked.row as usize);
+    if !points_back(entry, s.q, reverse, asked.row as u16) {
+        return Err(Refusal::Pointers);
     }
-    0
+    Ok(())
 }

@@ -1,16 +1,14 @@
 -- Document 01, 'Trace program': what a step prints. Fields have a blank (32) between them, `-` (45) stands for none,
 -- and a newline (10) at the end.
 -- Assumes nothing.
-use Rattle.std.specs.Prelude.{ℕ, List, [], ◌∷◌, ◌++◌}
+use Rattle.std.specs.Prelude.{ℕ, List, [], ◌∷◌, ◌++◌, Option, None, Some}
 use Rattle.page.specs.Decimal.{decimal}
-use Rattle.lines.specs.declared.Figure.{Figure}
-use Rattle.lines.specs.declared.Figure.TheVariants.{Dash, Number}
 use Rattle.lines.specs.declared.Line.{Line}
 
 -- '`-` for none'
-abbrev pub figure_bytes : Figure → List ℕ
-figure_bytes Dash = 45 ∷ []
-figure_bytes (Number n) = decimal n
+abbrev pub figure_bytes : Option ℕ → List ℕ
+figure_bytes None = 45 ∷ []
+figure_bytes (Some n) = decimal n
 
 -- a field after another
 abbrev pub field : List ℕ → List ℕ

@@ -1,35 +1,22 @@
--- A blank text: what a loop over its bytes tells, and that it has no numbers. Assumes nothing.
-use Prim.Native.Nat.{ℕ, ◌+◌, ◌<◌, ◌≤◌}
-use native.Mathlib.Numerals.{add-one}
-use mathlib.Core.Path.{◌≡◌, refl}
+-- A blank text: its test, as std has it, and that it has no numbers. Assumes nothing.
+use Prim.Native.Nat.{ℕ}
+use mathlib.Core.Path.{◌≡◌, refl, ap}
 use mathlib.Core.Logic.{inl, inr}
-use mathlib.Core.Bool.{true, false}
+use mathlib.Core.Bool.{Bool, true, false, ◌&&◌}
 use mathlib.Core.List.{List, [], ◌∷◌}
 use lib.Dec.{eqb}
-use lib.ListN.{length, get_or, drop, drop_of_length-le}
-use lib.Seq.{drop-cons}
 use borrow.Author.Tests.{eqb-true}
+use Rattle.std.specs.List.{list_all}
 use Rattle.basics.specs.Lists.{every}
 use Rattle.basics.proofs.Cases.{split}
 use Rattle.basics.proofs.Tests.{and_left, and_right}
 use Rattle.number_text.specs.Numbers.{is_digit, is_gap, blank, numbers, numbers_from}
 
--- ---- the bytes from index i on
-
-module _ (text : List ℕ) (i : ℕ) where
-  pub gap_passed : i < length text → is_gap (get_or text i 0) ≡ true → blank (drop i text) ≡ blank (drop (i + 1) text)
-  unfolding every
-  gap_passed h e = rw (add-one, drop-cons text i 0) (rw e)
-
-  pub no_gap : i < length text → is_gap (get_or text i 0) ≡ false → blank (drop i text) ≡ false
-  unfolding every
-  no_gap h e = rw (drop-cons text i 0) (rw e)
-
-  pub all_passed : length text ≤ i → blank (drop i text) ≡ true
-  unfolding every
-  all_passed h = rw (drop_of_length-le text h)
-
--- ---- the whole text
+-- as std has it
+pub all_gaps : (text : List ℕ) → blank text ≡ list_all is_gap text
+unfolding every
+all_gaps [] = refl
+all_gaps (b ∷ bs) = ap (λ (rest : Bool). is_gap b && rest) (all_gaps bs)
 
 gap_no_digit : (b : ℕ) → is_gap b ≡ true → is_digit b ≡ false
 gap_no_digit b e =

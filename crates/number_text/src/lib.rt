@@ -8,41 +8,23 @@ use scanner::Scan;
 
 mod scanner;
 
-// What a text of decimal numbers is: unreadable, or so many numbers, which stand at the start of the lent list.
-#[derive(Clone, Copy)]
-pub enum Numbers {
-    Unreadable,
-    Count(usize),
-}
-
-// Reads the decimal numbers of a text into the lent list. A text with more numbers than the list holds is unreadable too.
-pub fn read_numbers(text: &[u8], list: &mut [u32]) -> Numbers
+// Reads the decimal numbers of a text into the lent list, and returns how many stand at its start. A text that is unreadable
+// has none, nor has one with more numbers than the list holds.
+pub fn read_numbers(text: &[u8], list: &mut [u32]) -> Option<usize>
     ensures numbers { listed result list.new ≡ numbers_within (length list.old) text.now }
     ensures within { counted result ≤ length list.old }
 {
     let mut s = Scan::START;
-    let mut i: usize = 0;
-    while i < text.len() {
-        s = scanner::eat(list, s, text[i]);
-        i += 1;
+    for b in text {
+        s = scanner::eat(list, s, *b)?;
     }
-    let last = scanner::end_number(list, s);
-    if last.good {
-        return Numbers::Count(last.count);
-    }
-    Numbers::Unreadable
+    let last = scanner::end_number(list, s)?;
+    Some(last.count)
 }
 
 // Tells whether a text is blank: it has no bytes, or blanks and newlines alone.
 pub fn is_blank(text: &[u8]) -> bool
     ensures { result ≡ blank text.now }
 {
-    let mut i: usize = 0;
-    while i < text.len() {
-        if !scanner::is_gap(text[i]) {
-            return false;
-        }
-        i += 1;
-    }
-    true
+    text.iter().all(|b| scanner::is_gap(*b))
 }

@@ -14,12 +14,12 @@ pub fn aqua_least_size(trefw: u64, trc: u64, tmov: u64, banks: u64, threshold: u
         record { trefw = trefw; trc = trc; tmov = tmov; banks = banks; threshold = threshold } in
         result ≡ sum_of (least_size times) }
 {
-    figures::sum_of(sizing::least_size(SizeTimes {
-        trefw: trefw,
-        trc: trc,
-        tmov: tmov,
-        banks: banks,
-        threshold: threshold,
+    Sum::from(sizing::least_size(SizeTimes {
+        trefw,
+        trc,
+        tmov,
+        banks,
+        threshold,
     }))
 }
 
@@ -28,10 +28,10 @@ pub fn aqua_most_activations(trefw: u64, trc: u64, trefi: u64, trfc: u64) -> Sum
     ensures { let times : RefreshTimes-of = record { trefw = trefw; trc = trc; trefi = trefi; trfc = trfc } in
         result ≡ sum_of (most_activations times) }
 {
-    figures::sum_of(sizing::most_activations(RefreshTimes {
-        trefw: trefw,
-        trc: trc,
-        trefi: trefi,
-        trfc: trfc,
+    Sum::from(sizing::most_activations(RefreshTimes {
+        trefw,
+        trc,
+        trefi,
+        trfc,
     }))
 }

@@ -4,7 +4,7 @@ use mathlib.Core.Path.{◌≡◌, refl, sym, ◌∙◌}
 use mathlib.Core.Logic.{inl, inr}
 use mathlib.Core.Bool.{false}
 use mathlib.Core.List.{List, map}
-use mathlib.Core.Option.{Option, none, some}
+use Rattle.std.specs.Prelude.{Option, None, Some}
 use Rattle.geometry.specs.declared.Settings.{Settings}
 use Rattle.basics.proofs.Cases.{split, eq?}
 use Rattle.engine.specs.Ladder.{settings_number}
@@ -47,8 +47,8 @@ module _ (text : List ℕ) where
       ]
 
   by_form : (said : Option Recorded) → trace_in text ≡ said → is_empty_trace text ≡ false → Prints text
-  by_form none f e = formless e f (form_replayed text e f)
-  by_form (some said) f e = formed f
+  by_form None f e = formless e f (form_replayed text e f)
+  by_form (Some said) f e = formed f
 
 pub every_file : EveryFile
 every_file text =

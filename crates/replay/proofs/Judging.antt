@@ -6,7 +6,7 @@ use mathlib.Core.Path.{◌≡◌, refl, sym, ◌∙◌}
 use mathlib.Core.Logic.{◌≢◌}
 use mathlib.Core.Bool.{true, false}
 use mathlib.Core.List.{List, []}
-use mathlib.Core.Option.{Option}
+use Rattle.std.specs.Prelude.{Option}
 use lib.ListN.{take, drop}
 use borrow.Author.Tests.{ne_eqb, le-leb, lt-leb}
 use Rattle.geometry.specs.declared.Settings.{Settings}
@@ -14,10 +14,8 @@ use Rattle.conditions.specs.Conditions.{ranges_hold}
 use Rattle.conditions.proofs.Facts.{ranges_facts}
 use Rattle.engine.specs.Ladder.{settings_number}
 use Rattle.engine.proofs.Facts.{settings_facts}
-use Rattle.trace_file.specs.declared.Form.{Form}
-use Rattle.trace_file.specs.declared.Form.TheVariants.{Refused, Trace}
-use Rattle.trace_file.specs.Form.{Recorded, recorded, trace_in, is_empty_trace, most_numbers, trace_within}
-use Rattle.trace_file.proofs.Sections.{all_said}
+use Rattle.trace_file.specs.Form.{Recorded, trace_in, is_empty_trace, most_numbers, trace_within}
+use Rattle.trace_file.proofs.Sections.{enough_room}
 use Rattle.lines.specs.declared.Line.{Line}
 use Rattle.lines.specs.Lines.{bare}
 use Rattle.line_text.specs.LineText.{line_bytes}
@@ -58,18 +56,6 @@ module _ (S : Settings) where
     unfolding played
     all_run e h = rw (e, h) refl
 
--- ---- the file's form, with the numbers of the file
-
-module _ {form : Form} (numbers : List ℕ) where
-  pub form_refused : form ≡ Refused → refused_line ≡ played_form (recorded form numbers)
-  form_refused e = rw e refl
-
-  pub form_played : {S : Settings} {first count : ℕ} → form ≡ Trace S first count
-      → played S (take (first + count - first) (drop first numbers)) ≡ played_form (recorded form numbers)
-  form_played {S} {first} {count} e =
-      let same : first + count - first ≡ count = omega arith in
-      rw (e, same) refl
-
 -- ---- what is printed for a file
 
 module _ (text : List ℕ) where
@@ -100,4 +86,4 @@ module _ (text : List ℕ) {room : ℕ} where
     -- the page has room for all lines, and the list of numbers for every trace
     pub page_long : {places : ℕ} {said : Option Recorded} → is_empty_trace text ≡ false → most_numbers ≤ places
         → said ≡ trace_within places text → played_form said ≡ printed_on room text
-    page_long {places} e long f = sym (page_wide ∙ form_replayed text e (sym (f ∙ all_said text places long)))
+    page_long {places} e long f = sym (page_wide ∙ form_replayed text e (sym (f ∙ enough_room text places long)))

@@ -1,7 +1,6 @@
 -- Document 02, Ask 1, 'An empty file is a trace': what is printed, for every file.
 -- Assumes nothing.
-use Rattle.std.specs.Prelude.{ℕ, ◌<◌, ◌≤◌, ◌≡◌, ◌⊎◌, true, List, [], length}
-use Rattle.std.proofs.Math.Option.{some}
+use Rattle.std.specs.Prelude.{ℕ, ◌<◌, ◌≤◌, ◌≡◌, ◌⊎◌, true, List, [], length, Some}
 use Rattle.number_text.specs.Numbers.{blank, numbers}
 use Rattle.trace_file.specs.Form.{Recorded, steps_at, trace_in}
 use Rattle.replay.specs.Replay.{refused_line, played, replayed}
@@ -25,5 +24,5 @@ OneSectionRefused =
 -- a file in 01's form prints what it printed before: none is taken for an empty trace
 abbrev pub TracesStay : Type 0
 TracesStay =
-    (text : List ℕ) (said : Recorded) → trace_in text ≡ some said
+    (text : List ℕ) (said : Recorded) → trace_in text ≡ Some said
     → replayed text ≡ played said.settings said.steps

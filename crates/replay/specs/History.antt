@@ -1,8 +1,7 @@
 -- What a trace prints is what a history answered, so that the theorems of crate `history` speak of it; and what is printed
 -- for each kind of file. The proofs are `traces_are_histories` and `every_file` of proofs/History.antt.
 -- Assumes nothing.
-use Rattle.std.specs.Prelude.{ℕ, ◌≡◌, ◌≢◌, true, false, List, [], map}
-use Rattle.std.proofs.Math.Option.{none, some}
+use Rattle.std.specs.Prelude.{ℕ, ◌≡◌, ◌≢◌, true, false, List, [], map, None, Some}
 use Rattle.geometry.specs.declared.Settings.{Settings}
 use Rattle.engine.specs.Ladder.{settings_number}
 use Rattle.engine.specs.Calls.{set_up}
@@ -20,7 +19,7 @@ use Rattle.replay.specs.Replay.{refused_line, replayed}
 
 -- its form is a trace's
 abbrev pub Says : List ℕ → Settings → List ℕ → Type 0
-Says text S steps = trace_in text ≡ some (record { settings = S; steps = steps })
+Says text S steps = trace_in text ≡ Some (record { settings = S; steps = steps })
 
 -- .. its settings are accepted, and its memory fits
 pub record Plays (text : List ℕ) (S : Settings) (steps : List ℕ) : Type 0 where
@@ -51,7 +50,7 @@ TracesAreHistories =
 -- an empty trace (document 02, Ask 1), or what is judged: 'the file's form .. first, then the settings, then the store's size'
 pub data Prints (text : List ℕ) : Type 0 where
   nothing : is_empty_trace text ≡ true → replayed text ≡ [] → Prints text
-  formless : is_empty_trace text ≡ false → trace_in text ≡ none → replayed text ≡ refused_line → Prints text
+  formless : is_empty_trace text ≡ false → trace_in text ≡ None → replayed text ≡ refused_line → Prints text
   unsettled : {S : Settings} {steps : List ℕ} → Says text S steps → settings_number S ≢ 0
       → replayed text ≡ line_bytes 0 (bare (settings_number S)) → Prints text
   too_large : {S : Settings} {steps : List ℕ} → Says text S steps → settings_number S ≡ 0 → memory_fits S ≡ false

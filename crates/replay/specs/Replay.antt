@@ -1,7 +1,6 @@
 -- Document 01, 'Trace program', with document 02, Asks 1 and 5: from the bytes of a trace file to the bytes printed.
 -- Assumes nothing.
-use Rattle.std.specs.Prelude.{ℕ, ◌+◌, ◌*◌, cond, List, [], eqb, leb}
-use Rattle.std.proofs.Math.Option.{Option, none, some}
+use Rattle.std.specs.Prelude.{ℕ, ◌+◌, ◌*◌, cond, List, [], eqb, leb, Option, None, Some}
 use Rattle.geometry.specs.declared.Settings.{Settings}
 use Rattle.engine.specs.Ladder.{settings_number}
 use Rattle.trace_file.specs.Form.{Recorded, trace_in, is_empty_trace}
@@ -33,8 +32,8 @@ played S steps =
 
 -- the same, where the form is refused too
 abbrev pub played_form : Option Recorded → List ℕ
-played_form none = refused_line
-played_form (some trace) = played trace.settings trace.steps
+played_form None = refused_line
+played_form (Some trace) = played trace.settings trace.steps
 
 -- what is printed for a file; 'the file's form is judged first'. An empty trace 'shall be read as a trace of no steps and
 -- print nothing' (document 02, Ask 1): it has no settings that could be refused

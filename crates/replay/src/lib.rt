@@ -3,12 +3,11 @@
 #![tactic(auto)]
 
 ghost use Rattle.std.specs.Prelude.{◌≡◌, ◌+◌, ◌*◌, ◌≤◌, length, take};
-ghost use Rattle.trace_file.specs.Form.{most_numbers, recorded, StepsWithin};
 ghost use Rattle.trace_steps.specs.Steps.{line_room};
-ghost use Rattle.replay.specs.Replay.{page_room, refused_line, played, played_form, printed_on};
+ghost use Rattle.replay.specs.Replay.{refused_line, played, printed_on};
 
 use geometry::Settings;
-use trace_file::Form;
+use lines::Line;
 
 mod new_memory;
 
@@ -44,9 +43,8 @@ fn play(s: Settings, steps: &[u32], page: &mut [u8]) -> usize
     ensures short { result ≤ length page.old }
     ensures printed { take result page.new ≡ played s steps.now }
 {
-    let number = ladder::settings_number(s);
-    if number != 0 {
-        return line_text::put_line(page, 0, 0, lines::bare(number));
+    if let Err(refusal) = ladder::check_settings(s) {
+        return line_text::put_line(page, 0, 0, Line::bare(refusal.number()));
     }
     let size = ((s.n as usize) + (s.q as usize)) * (s.w as usize);
     let entries = (s.b as usize) * (s.k as usize);
@@ -55,32 +53,6 @@ fn play(s: Settings, steps: &[u32], page: &mut [u8]) -> usize
         return put_refused(page);
     }
     new_memory::on_new_memory(s, size, entries, steps, page)
-}
-
-// Returns room for the numbers of the longest trace.
-fn number_buffer() -> [u32; trace_file::MOST_NUMBERS]
-    ensures { most_numbers ≡ length result }
-{
-    [0u32; trace_file::MOST_NUMBERS]
-}
-
-// Plays a file whose form was judged; its numbers stand in the list.
-fn play_form(form: Form, numbers: &[u32], page: &mut [u8]) -> usize
-    requires { StepsWithin form × (most_numbers ≡ length numbers.now) × (page_room ≤ length page.old) }
-    ensures short { result ≤ length page.old }
-    ensures printed { take result page.new ≡ played_form (recorded form numbers.now) }
-{
-    match form {
-        Form::Refused => put_refused(page),
-        Form::Trace {
-            settings,
-            first,
-            count,
-        } => {
-            let end = first + count;
-            play(settings, &numbers[first..end], page)
-        }
-    }
 }
 
 // Replays a trace file: prints on the page, and returns how many bytes were printed.
@@ -94,7 +66,9 @@ pub fn replay(text: &[u8], page: &mut [u8]) -> usize
     if trace_file::is_empty_trace(text) {
         return 0;
     }
-    let mut numbers = number_buffer();
-    let form = trace_file::parse(text, &mut numbers);
-    play_form(form, &numbers, page)
+    let mut numbers = [0u32; trace_file::MOST_NUMBERS];
+    match trace_file::parse(text, &mut numbers) {
+        None => put_refused(page),
+        Some(trace) => play(trace.settings, &numbers[trace.steps], page),
+    }
 }

@@ -1,11 +1,24 @@
 // The bytes of rows within the store: reading a row, writing into one, copying one to another.
 // Rows are of w bytes; physical row p starts at byte p × w.
+// Kept: `store`, `w` and `place` stay parameters, and that the row lies in the store a `requires`, since the store is lent for
+// reading here and for writing there, and a struct for each would be longer than what it saves.
 #![tactic(auto)]
 
-ghost use Rattle.std.specs.Prelude.{◌≡◌, ◌≢◌, ◌+◌, ◌*◌, ◌≤◌, length};
+ghost use Rattle.std.specs.Prelude.{◌≡◌, ◌≢◌, ◌+◌, ◌*◌, ◌^◌, ◌≤◌, ◌<◌, length};
+ghost use Rattle.std.proofs.Math.Seq.{paste};
 ghost use Rattle.row_layout.specs.Bytes.{row_bytes, written, copied};
 
 use geometry::PhysicalRow;
+use std::ops::Range;
+
+// The places of a row's bytes within the store.
+fn row_range(w: usize, place: PhysicalRow) -> Range<usize>
+    requires { place.0 * w + w < 2 ^ 64 }
+    ensures { result ≡ record { start = place.0 * w; end = place.0 * w + w } }
+{
+    let start = (place.0 as usize) * w;
+    start..start + w
+}
 
 // The part of the store that is a row. It lies where the row begins; an address is a block of memory and an offset in it.
 #[tactic(auto, unfolding(row_layout::specs::Bytes::row_bytes))]
@@ -14,37 +27,41 @@ pub fn row_part<'a>(store: &'a [u8], w: usize, place: PhysicalRow) -> &'a [u8]
     ensures bytes { result.now ≡ row_bytes w store.now place.0 }
     ensures lies { result.ref_ptr ≡ (store.entry.ref_ptr.0, place.0 * w + store.entry.ref_ptr.1) }
 {
-    let start = (place.0 as usize) * w;
-    let end = start + w;
-    &store[start..end]
+    &store[row_range(w, place)]
 }
 
 // Fills the buffer with the bytes of a row.
+#[tactic(auto, unfolding(row_layout::specs::Bytes::row_bytes))]
 pub fn read_row(store: &[u8], w: usize, place: PhysicalRow, buffer: &mut [u8])
     requires { (length buffer.old ≡ w) × (place.0 * w + w ≤ length store.now) }
     ensures { buffer.new ≡ row_bytes w store.now place.0 }
 {
-    let row = row_part(store, w, place);
-    block_put::put_bytes(buffer, 0, row);
+    buffer.copy_from_slice(row_part(store, w, place));
+}
+
+// Writes bytes into the part that is a row from a column on.
+fn put(row: &mut [u8], column: usize, bytes: &[u8])
+    requires { column + length bytes.now ≤ length row.old }
+    ensures { row.new ≡ paste row.old column bytes.now (length bytes.now) }
+{
+    row[column..column + bytes.len()].copy_from_slice(bytes);
 }
 
 // Writes bytes into a row from a column on: only the row's part of the store is lent on.
+#[tactic(auto, using(basics::proofs::Pastes::paste_part), unfolding(row_layout::specs::Bytes::written))]
 pub fn write_row(store: &mut [u8], w: usize, place: PhysicalRow, column: usize, bytes: &[u8])
     requires { (column + length bytes.now ≤ w) × (place.0 * w + w ≤ length store.old) }
     ensures { store.new ≡ written w store.old place.0 column bytes.now }
 {
-    let start = (place.0 as usize) * w;
-    let end = start + w;
-    block_put::put_bytes(&mut store[start..end], column, bytes);
+    put(&mut store[row_range(w, place)], column, bytes);
 }
 
 // Copies row `source` to row `target` within the store.
+#[tactic(auto, unfolding(row_layout::specs::Bytes::copied))]
 pub fn copy_row(store: &mut [u8], w: usize, source: PhysicalRow, target: PhysicalRow)
     requires { (source.0 ≢ target.0)
         × (source.0 * w + w ≤ length store.old) × (target.0 * w + w ≤ length store.old) }
     ensures { store.new ≡ copied w store.old source.0 target.0 }
 {
-    let from = (source.0 as usize) * w;
-    let to = (target.0 as usize) * w;
-    block_copy::copy_within(store, from, to, w);
+    store.copy_within(row_range(w, source), row_range(w, target).start);
 }

@@ -8,6 +8,7 @@ use mathlib.Core.List.{List}
 use lib.Dec.{eqb}
 use lib.ListN.{length}
 use borrow.Author.Tests.{eqb-false}
+use Rattle.std.specs.Prelude.{Some}
 use Rattle.geometry.specs.declared.Settings.{Settings}
 use Rattle.geometry.specs.Numbering.{slot_row}
 use Rattle.geometry.specs.Entry.{empty}
@@ -17,8 +18,7 @@ use Rattle.basics.proofs.Portions.{portion_fits, portion-set, portion-set_other}
 use Rattle.banks.proofs.Banks.{bank_in}
 use Rattle.tracking.specs.Worn.{worn}
 use Rattle.tracking.specs.Entry.{entry_of, entry_found}
-use Rattle.tracking.proofs.Due.{due_some}
-use Rattle.tracking.proofs.Banks.{entry_in_bank, estimate-in}
+use Rattle.tracking.proofs.Banks.{entry_in_bank}
 use Rattle.tracking.proofs.Worn.{worn-before}
 use Rattle.engine.specs.State.{State, Tracker, tracker_at, forward_of}
 use Rattle.engine.specs.Steps.{place, tracked, counted, moves, skips, skipped}
@@ -29,7 +29,7 @@ use Rattle.seek.specs.Seeking.{worn_before, skips_before, skipped_before}
 module _ (S : Settings) (σ : State) (r : ℕ) (some : 1 ≤ S.b) (rows_long : length σ.rows ≡ S.b * S.k)
     (counts_long : length σ.counts ≡ S.b * S.k) (row_in : r < S.n) (rows_few : S.n ≤ 60000) (slots_few : S.q ≤ 5500)
     (due : moves S σ r ≡ true) where
-  -- the place, its bank, the tracker that serves it, and the entry that step 2 changes: among the bank's, and among all
+  -- the place, its bank, and the tracker that serves it
   abbrev p : ℕ
   p = place S σ r
 
@@ -39,76 +39,65 @@ module _ (S : Settings) (σ : State) (r : ℕ) (some : 1 ≤ S.b) (rows_long : l
   abbrev t : Tracker
   t = tracker_at S σ p
 
-  abbrev entry : ℕ
-  entry = entry_of p t.rows t.counts t.spill
-
-  abbrev changed : ℕ
-  changed = entry_found S.k c p σ.rows σ.counts t.spill
-
-  changed_is : changed ≡ c * S.k + entry
-  unfolding entry_found
-  changed_is = refl
-
   fits : (x : ℕ) (table : List ℕ) → length table ≡ S.b * S.k → bank_of S x * S.k + S.k ≤ length table
   fits x table long = portion_fits S.k S.b (bank_of S x) (length table) long (bank_in S x some)
 
-  inside : entry < S.k
-  inside =
-      let rows_fit = fits p σ.rows rows_long in
-      let counts_fit = fits p σ.counts counts_long in
-      let told = estimate-in S.k c σ.rows σ.counts rows_fit counts_fit p t.spill in
-      let in-bank = entry_in_bank S.k c σ.rows σ.counts rows_fit counts_fit p t.spill
-      (λ e. due_some S.a (tracked S σ r).estimate due (sym told ∙ e)) in
-      omega (arith, changed_is, in-bank)
+  -- the entry that step 2 changes, of the entries of all banks; and among the bank's
+  module _ {changed : ℕ} (found : entry_found S.k c p σ.rows σ.counts t.spill ≡ Some changed) where
+    abbrev in_bank : (j : ℕ) × (entry_of p t.rows t.counts t.spill ≡ Some j) × (changed ≡ c * S.k + j) × (j < S.k)
+    in_bank = entry_in_bank S.k c σ.rows σ.counts (fits p σ.rows rows_long) (fits p σ.counts counts_long) p t.spill found
 
-  -- whether a physical row is worn after step 2: of the place's bank, and of another
-  abbrev worn_after : ℕ → Bool
-  worn_after x =
-      let u : Tracker = tracker_at S (counted S σ r) x in
-      worn S.a u.rows u.counts x
+    abbrev entry : ℕ
+    entry = in_bank.0
 
-  worn-same : (x : ℕ) → x ≢ p → x ≢ empty → bank_of S x ≡ c → worn_before S changed σ.rows σ.counts x ≡ worn_after x
-  worn-same x other named e =
-      rw (
-        rows_same S σ r some rows_long counts_long x e,
-        counts_same S σ r some rows_long counts_long x e,
-        e,
-        changed_is,
-        portion-set S.k c σ.rows (fits p σ.rows rows_long) entry empty inside,
-      )
-      (sym (worn-before S.a p t.rows t.counts t.spill (entries_alike S σ r some rows_long counts_long)
-      x other named due))
+    -- whether a physical row is worn after step 2: of the place's bank, and of another
+    abbrev worn_after : ℕ → Bool
+    worn_after x =
+        let u : Tracker = tracker_at S (counted S σ r) x in
+        worn S.a u.rows u.counts x
 
-  worn_other : (x : ℕ) → bank_of S x ≢ c → worn_before S changed σ.rows σ.counts x ≡ worn_after x
-  worn_other x n =
-      let room = fits x σ.rows rows_long in
-      rw (
-        rows_other S σ r some rows_long counts_long x n,
-        counts_other S σ r some rows_long counts_long x n,
-        changed_is,
-        portion-set_other S.k c σ.rows (fits p σ.rows rows_long) entry empty inside (bank_of S x) room n,
-      )
+    worn-same : (x : ℕ) → x ≢ p → x ≢ empty → bank_of S x ≡ c → worn_before S changed σ.rows σ.counts x ≡ worn_after x
+    worn-same x other named e =
+        rw (
+          rows_same S σ r some rows_long counts_long x e,
+          counts_same S σ r some rows_long counts_long x e,
+          e,
+          in_bank.2,
+          portion-set S.k c σ.rows (fits p σ.rows rows_long) entry empty in_bank.3,
+        )
+        (sym (worn-before S.a p t.rows t.counts t.spill (entries_alike S σ r some rows_long counts_long)
+        x other named due entry in_bank.1))
 
-  -- a slot other than the row's own is not its place
-  elsewhere : (s : ℕ) → forward_of σ r ≢ s → slot_row S s ≢ p
-  elsewhere s other =
-      elim (split (eqb (forward_of σ r) empty)) [
-        | inl e ↦ rw e (λ at. omega arith)
-        | inr e ↦ rw e (λ at. other (omega arith))
-      ]
+    worn_other : (x : ℕ) → bank_of S x ≢ c → worn_before S changed σ.rows σ.counts x ≡ worn_after x
+    worn_other x n =
+        let room = fits x σ.rows rows_long in
+        rw (
+          rows_other S σ r some rows_long counts_long x n,
+          counts_other S σ r some rows_long counts_long x n,
+          in_bank.2,
+          portion-set_other S.k c σ.rows (fits p σ.rows rows_long) entry empty in_bank.3 (bank_of S x) room n,
+        )
 
-  skips_there : (s : ℕ) → s < S.q → skips_before S (forward_of σ r) changed σ.rows σ.counts s ≡ skips S σ r s
-  skips_there s s-in =
-      elim (split (eqb (forward_of σ r) s)) [
-        | inl e ↦ rw e
-        | inr e ↦ rw e (elim (eq? (bank_of S (slot_row S s)) c) [
-          | inl of ↦ worn-same (slot_row S s) (elsewhere s (eqb-false (forward_of σ r) s e)) (λ z. omega arith) of
-          | inr n ↦ worn_other (slot_row S s) n
-        ])
-      ]
+    -- a slot other than the row's own is not its place
+    elsewhere : (s : ℕ) → forward_of σ r ≢ s → slot_row S s ≢ p
+    elsewhere s other =
+        elim (split (eqb (forward_of σ r) empty)) [
+          | inl e ↦ rw e (λ at. omega arith)
+          | inr e ↦ rw e (λ at. other (omega arith))
+        ]
 
-  pub skipped-before : σ.control.head < S.q
-      → skipped_before S σ.control.head (forward_of σ r) changed σ.rows σ.counts ≡ skipped S σ r
-  skipped-before head_in =
-      skip_same (skips_before S (forward_of σ r) changed σ.rows σ.counts) (skips S σ r) S.q S.q σ.control.head
-      head_in skips_there
+    skips_there : (s : ℕ) → s < S.q → skips_before S (forward_of σ r) changed σ.rows σ.counts s ≡ skips S σ r s
+    skips_there s s-in =
+        elim (split (eqb (forward_of σ r) s)) [
+          | inl e ↦ rw e
+          | inr e ↦ rw e (elim (eq? (bank_of S (slot_row S s)) c) [
+            | inl of ↦ worn-same (slot_row S s) (elsewhere s (eqb-false (forward_of σ r) s e)) (λ z. omega arith) of
+            | inr n ↦ worn_other (slot_row S s) n
+          ])
+        ]
+
+    pub skipped-before : σ.control.head < S.q
+        → skipped_before S σ.control.head (forward_of σ r) changed σ.rows σ.counts ≡ skipped S σ r
+    skipped-before head_in =
+        skip_same (skips_before S (forward_of σ r) changed σ.rows σ.counts) (skips S σ r) S.q S.q σ.control.head
+        head_in skips_there

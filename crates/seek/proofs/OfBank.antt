@@ -3,19 +3,16 @@
 use Prim.Native.Nat.{ℕ, ◌+◌, ◌*◌, ◌<◌, ◌≤◌}
 use native.Mathlib.Omega.{arith}
 use mathlib.Core.Path.{◌≡◌, refl, sym, ap, ◌∙◌}
-use mathlib.Core.Logic.{inl, inr}
 use mathlib.Core.Bool.{false}
 use mathlib.Core.List.{List}
 use lib.Dec.{leb}
-use lib.ListN.{length, get_or, set, take, drop, length-set}
-use lib.Seq.{set_out, take-set-le, take-set-lt, length-take-le}
+use lib.ListN.{length, get_or, set, length-set}
 use Rattle.geometry.specs.declared.Settings.{Settings}
 use Rattle.geometry.specs.Entry.{empty}
-use Rattle.basics.proofs.Cases.{lt?}
 use Rattle.scan.specs.Scan.{index_of}
 use Rattle.basics.specs.Portions.{portion}
 use Rattle.banks.specs.Banks.{bank_of}
-use Rattle.basics.proofs.Portions.{portion_fits, length-portion, get_or-portion, portion-cut}
+use Rattle.basics.proofs.Portions.{portion_fits, length-portion, get_or-portion}
 use Rattle.banks.proofs.Banks.{bank_in}
 use Rattle.tracking.proofs.Worn.{worn-told, worn_unnamed}
 use Rattle.seek.specs.Seeking.{worn_before, Seekable}
@@ -32,27 +29,12 @@ module _ {S : Settings} {changed : ℕ} {rows counts : List ℕ} (seekable : See
     pub others_fit : c * S.k + S.k ≤ length (set rows changed empty)
     others_fit = omega (arith, rows_fit, length-set rows changed empty)
 
-    -- the entries before the bank's end, and with one left out
-    pub cut_long : length (take (c * S.k + S.k) rows) ≡ c * S.k + S.k
-    cut_long = length-take-le (c * S.k + S.k) rows rows_fit
-
-    left_before : take (c * S.k + S.k) (set rows changed empty) ≡ set (take (c * S.k + S.k) rows) changed empty
-    left_before =
-        let to : ℕ = c * S.k + S.k in
-        elim (lt? changed to) [
-          | inl h ↦ take-set-lt to rows changed empty h
-          | inr h ↦
-              take-set-le to rows changed empty h
-              ∙ sym (set_out (take to rows) changed empty (omega (arith, cut_long)))
-        ]
-
   -- the bank of a physical row is one of B
   pub bank_known : {c : ℕ} (x : ℕ) → c ≡ bank_of S x → c < S.b
   bank_known {c} x e = rw e (bank_in S x seekable.some_bank)
 
-  -- c: a row's bank; i: the lowest entry that names the row, from the bank's start on, of the entries before its end
-  module _ (x : ℕ) {c i : ℕ} (e : c ≡ bank_of S x)
-      (found : i ≡ c * S.k + index_of x (drop (c * S.k) (set (take (c * S.k + S.k) rows) changed empty))) where
+  -- c: a row's bank; i: the lowest entry that names the row, or the bank's end
+  module _ (x : ℕ) {c i : ℕ} (e : c ≡ bank_of S x) (found : i ≡ c * S.k + index_of x (portion S.k c (set rows changed empty))) where
     c_in : c < S.b
     c_in = bank_known x e
 
@@ -62,17 +44,11 @@ module _ {S : Settings} {changed : ℕ} {rows counts : List ℕ} (seekable : See
     others_long : length others ≡ S.k
     others_long = length-portion S.k c (set rows changed empty) (others_fit c_in)
 
-    there : i ≡ c * S.k + index_of x others
-    there =
-        found
-        ∙ ap (λ (l : List ℕ). c * S.k + index_of x (drop (c * S.k) l)) (sym (left_before c_in))
-        ∙ ap (λ (l : List ℕ). c * S.k + index_of x l) (sym (portion-cut S.k c (set rows changed empty) (others_fit c_in)))
-
     pub worn_found : i < c * S.k + S.k → leb S.a (get_or counts i 0) ≡ worn_before S changed rows counts x
     worn_found h =
         let j : ℕ = index_of x others in
-        let j-in : j < S.k = omega (arith, there) in
-        let count = ap (λ (n : ℕ). get_or counts n 0) there ∙ sym (get_or-portion S.k c counts (counts_fit c_in) j 0 j-in) in
+        let j-in : j < S.k = omega (arith, found) in
+        let count = ap (λ (n : ℕ). get_or counts n 0) found ∙ sym (get_or-portion S.k c counts (counts_fit c_in) j 0 j-in) in
         rw (← e)
         (ap (leb S.a) count
         ∙ worn-told S.a others (portion S.k c counts) x j refl (omega (arith, others_long)))
@@ -80,4 +56,4 @@ module _ {S : Settings} {changed : ℕ} {rows counts : List ℕ} (seekable : See
     pub worn_missed : c * S.k + S.k ≤ i → false ≡ worn_before S changed rows counts x
     worn_missed h =
         rw (← e)
-        (worn_unnamed S.a others (portion S.k c counts) x (index_of x others) refl (omega (arith, there, others_long)))
+        (worn_unnamed S.a others (portion S.k c counts) x (index_of x others) refl (omega (arith, found, others_long)))

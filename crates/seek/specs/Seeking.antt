@@ -38,10 +38,6 @@ pub record Seekable (S : Settings) (changed : ℕ) (rows counts : List ℕ) : Ty
 abbrev pub marked_by : Settings → ℕ → ℕ → Bool → List Bool → List Bool
 marked_by S c name is marks = cond (ltb name S.n || not (eqb (bank_of S name) c)) marks (set marks (name - S.n) is)
 
--- what the head skips, read from the marks
-abbrev pub skips_marked : ℕ → List Bool → ℕ → Bool
-skips_marked entry marks s = eqb entry s || get_or marks s false
-
 -- the entries of bank c have made the marks `after` of the marks `before`: those of the slots of bank c are right, the
 -- others are as before
 pub record MarkedIn (S : Settings) (changed : ℕ) (rows counts : List ℕ) (c : ℕ) (before after : List Bool) : Type 0 where

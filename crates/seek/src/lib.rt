@@ -5,34 +5,47 @@
 // again, would else search a tracker for each slot that is left.
 #![tactic(auto)]
 
-ghost use Rattle.std.specs.Prelude.{◌≡◌, cond, ◌+◌, ◌-◌, ◌%◌, ◌<◌, ◌≤◌, ltb};
+ghost use Rattle.std.specs.Prelude.{◌≡◌, ℕ, ◌+◌, ◌-◌, ◌%◌, ◌<◌, ◌≤◌, Bool};
+ghost use Rattle.geometry.specs.Numbering.{slot};
+ghost use Rattle.geometry.specs.Entry.{forward_entry_of};
 ghost use Rattle.engine.specs.Round.{skipped_of};
 ghost use Rattle.seek.specs.Seeking.{skips_before, Seekable};
 
-use geometry::{ForwardEntry, Ring, Settings, Slot};
+use geometry::{Ring, Settings, Slot};
+use search::Search;
 
 mod marking;
 mod search;
 
-// Returns the index after one, round q.
-fn index_after(q: usize, at: usize) -> usize
-    requires { (at < q) × (q ≤ 5500) }
-    ensures { result ≡ (at + 1) % q }
+// Returns the slot after a slot, round Q.
+fn after(q: u32, at: Slot) -> Slot
+    requires { (at.0 < q) × (q ≤ 5500) }
+    ensures { result.0 ≡ (at.0 + 1) % q }
 {
-    if at + 1 == q {
-        return 0;
+    let next = at.0 + 1;
+    if next == q as u16 {
+        Slot(0)
+    } else {
+        Slot(next)
     }
-    at + 1
 }
 
-// Returns the lesser of two numbers.
-fn least(a: u32, b: u32) -> u32
-    ensures { result ≡ cond (ltb a b) a b }
+// Returns how many of so many slots from one on, round Q, are skipped before the first that is not, by a test of a slot.
+// A chain of the slots up to Q and of those from 0 on takes half as long again to walk (5,400 slots in 12.2 µs, not 8.2).
+fn skipped_by<F: Fn(Slot) -> bool>(q: u32, from: Slot, most: u32, skips: F) -> u32
+    requires inside { (from.0 < q) × (q ≤ 5500) }
+    requires callable { (s : ℕ) → s < q → F.pre skips (slot s) }
+    ensures { (skip : ℕ → Bool) → ((s : ℕ) → s < q → (b : Bool) → F.post skips (slot s) b → b ≡ skip s)
+        → result ≡ skipped_of skip q most from.0 }
 {
-    if a < b {
-        return a;
+    let mut at = from;
+    for n in 0..most {
+        if !skips(at) {
+            return n;
+        }
+        at = after(q, at);
     }
-    b
+    most
 }
 
 // Returns how many slots the head skips, of the Q − `passed` that it may still look at.
@@ -40,20 +53,30 @@ fn least(a: u32, b: u32) -> u32
 pub fn skipped(
     s: Settings,
     ring: Ring,
-    entry: ForwardEntry,
+    entry: Option<Slot>,
     changed: usize,
     rows: &[u16],
     counts: &[u32],
 ) -> u32
     requires { Seekable s changed rows.now counts.now × (ring.head < s.q) × (ring.passed ≤ s.q) }
-    ensures { let skip = skips_before s entry.0 changed rows.now counts.now in
+    ensures { let skip = skips_before s (forward_entry_of entry) changed rows.now counts.now in
         result ≡ skipped_of skip s.q (s.q - ring.passed) ring.head }
 {
+    let search = Search {
+        s,
+        own: entry,
+        changed,
+        rows,
+        counts,
+    };
     let most = s.q - ring.passed;
     let head = Slot(ring.head as u16);
-    let n = search::skipped_by_scan(s, entry, changed, head, least(most, 16), rows, counts);
+    let n = skipped_by(s.q, head, most.min(16), |slot| search.is_skipped(slot));
     if n < 16 {
         return n;
     }
-    marking::skipped_by_marking(s, entry, changed, head, most, rows, counts)
+    let mut marks = [false; 5500];
+    search.mark_worn(&mut marks);
+    let is_marked = |slot: Slot| search.own == Some(slot) || marks[slot.0 as usize];
+    skipped_by(s.q, head, most, is_marked)
 }

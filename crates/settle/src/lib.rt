@@ -1,77 +1,69 @@
 // What a move writes (step 4): the copies, the pointer tables, `head` and `passed`.
+// The store and the pointer tables travel together and stay parameters: each function over a struct of the three `&mut` slices
+// would have to say of each slice that it is still the same one, beside what it leaves there.
 #![tactic(auto)]
 
-ghost use Rattle.std.specs.Prelude.{◌≡◌, cond, ◌⊎◌, ◌<◌, length, set};
-ghost use Rattle.geometry.specs.Numbering.{home_row, slot_row};
-ghost use Rattle.geometry.specs.Entry.{empty, is_empty};
-ghost use Rattle.row_layout.specs.Bytes.{copied};
+ghost use Rattle.std.specs.Prelude.{◌≡◌, ◌<◌, length, IfSome};
 ghost use Rattle.engine.specs.State.{storage_of};
-ghost use Rattle.engine.specs.Steps.{move_into, left, relocated};
-ghost use Rattle.settle.specs.Settling.{Sendable, Movable};
+ghost use Rattle.engine.specs.Steps.{relocated};
+ghost use Rattle.verdict.specs.Verdicts.{move_to};
+ghost use Rattle.settle.specs.Settling.{store_sent, forward_sent, reverse_left, Sendable, Movable};
 
-use geometry::{ForwardEntry, ReverseEntry, Ring, Settings, Slot};
-use verdict::{Found, Verdict};
+use geometry::{Entry, Ring, Settings, Slot, VisibleRow};
+use verdict::{Destination, Found};
 
-// Empties the reverse entry of the slot that a row with that forward entry leaves.
-fn leave(reverse: &mut [u16], entry: ForwardEntry)
-    requires { (entry.0 ≡ empty) ⊎ (entry.0 < length reverse.old) }
-    ensures { reverse.new ≡ left reverse.old entry.0 }
+// Empties the reverse entry of the slot that a row leaves, if it was in one.
+fn leave(reverse: &mut [u16], entry: Option<Slot>)
+    requires { IfSome entry (λ slot. slot.0 < length reverse.old) }
+    ensures { reverse.new ≡ reverse_left entry reverse.old }
 {
-    if entry.is_empty() {
-        return;
+    if let Some(slot) = entry {
+        reverse[slot.0 as usize] = Entry::EMPTY.0;
     }
-    let at = entry.0 as usize;
-    reverse[at] = ReverseEntry::EMPTY.0;
 }
 
-// Copies the row that slot d holds, if it holds one, to its home, and empties its forward entry.
-fn send_home(s: Settings, d: Slot, held: ReverseEntry, store: &mut [u8], forward: &mut [u16])
-    requires { Sendable s d.0 held.0 store.old forward.old }
-    ensures store { let sent = copied s.w store.old (slot_row s d.0) (home_row held.0) in
-        store.new ≡ cond (is_empty held.0) store.old sent }
-    ensures forward { let sent = set forward.old held.0 empty in
-        forward.new ≡ cond (is_empty held.0) forward.old sent }
+// Copies the row that a slot holds, if it holds one, to its home, and empties its forward entry.
+#[tactic(auto, using(crate::proofs::Settles::row_inside))]
+fn send_home(
+    s: Settings,
+    slot: Slot,
+    held: Option<VisibleRow>,
+    store: &mut [u8],
+    forward: &mut [u16],
+)
+    requires { Sendable s slot held store.old forward.old }
+    ensures store { store.new ≡ store_sent s slot held store.old }
+    ensures forward { forward.new ≡ forward_sent held forward.old }
 {
-    if held.is_empty() {
-        return;
+    if let Some(row) = held {
+        let home = geometry::home(row);
+        row_bytes::copy_row(store, s.w as usize, geometry::slot_row(s, slot), home);
+        forward[row.0 as usize] = Entry::EMPTY.0;
     }
-    let v = held.row();
-    let source = geometry::slot_row(s, d);
-    let target = geometry::home(v);
-    row_bytes::copy_row(store, s.w as usize, source, target);
-    let at = v.0 as usize;
-    forward[at] = ForwardEntry::EMPTY.0;
 }
 
-// Moves the row that was found from its place to the slot of the verdict.
+// Moves the row that was found from its place to its destination.
+#[tactic(auto, using(crate::proofs::Settles::row_inside, crate::proofs::Settles::sent_long, crate::proofs::Settles::moved_is))]
 pub fn relocate(
     s: Settings,
     ring: Ring,
     f: Found,
-    v: Verdict,
+    d: Destination,
     store: &mut [u8],
     forward: &mut [u16],
     reverse: &mut [u16],
 ) -> Ring
-    requires { Movable s f v (storage_of store.old forward.old reverse.old ring) }
-    ensures { let move = move_into v.d.0 v.held.0 in
-        let before = storage_of store.old forward.old reverse.old ring in
-        storage_of store.new forward.new reverse.new result ≡ relocated s f.row.0 f.place.0 move before }
+    requires { Movable s f d (storage_of store.old forward.old reverse.old ring) }
+    ensures { let before = storage_of store.old forward.old reverse.old ring in
+        storage_of store.new forward.new reverse.new result ≡ relocated s f.row.0 f.place.0 (move_to d) before }
 {
-    let d = v.d;
-    let held = v.held;
-    send_home(s, d, held, store, forward);
-    let place = f.place;
-    row_bytes::copy_row(store, s.w as usize, place, geometry::slot_row(s, d));
-    let entry = f.entry;
-    leave(reverse, entry);
-    let row = f.row;
-    let to = d.0 as usize;
-    reverse[to] = ReverseEntry::of_row(row).0;
-    let at = row.0 as usize;
-    forward[at] = ForwardEntry::of_slot(d).0;
+    send_home(s, d.slot, d.held, store, forward);
+    row_bytes::copy_row(store, s.w as usize, f.place, geometry::slot_row(s, d.slot));
+    leave(reverse, f.entry);
+    reverse[d.slot.0 as usize] = Entry::of(f.row).0;
+    forward[f.row.0 as usize] = Entry::of(d.slot).0;
     Ring {
-        head: ((d.0 as u32) + 1) % s.q,
-        passed: ring.passed + v.up,
+        head: ((d.slot.0 as u32) + 1) % s.q,
+        passed: ring.passed + d.rise,
     }
 }

@@ -9,8 +9,8 @@ use lib.ListN.{length, get_or}
 use borrow.Author.Tests.{eqb-true}
 use Rattle.basics.specs.Lists.{every}
 use Rattle.basics.proofs.Tests.{and_left, and_right}
-use Rattle.sizing.specs.declared.Figure.{Figure}
-use Rattle.sizing.specs.declared.Figure.TheVariants.{Refused, Value}
+use Rattle.std.specs.Prelude.{Result, Ok, Err}
+use Rattle.refusals.specs.declared.Refusal.{Refusal}
 use Rattle.sizing.specs.Sums.{least_size, size_ranges_hold}
 use Rattle.size_table.specs.Table.{pair, sizes, table_times, gives, agrees, TableAgrees}
 
@@ -21,9 +21,9 @@ every_at f [] t i d h = absurd (not-suc-le-zero h)
 every_at f (x ∷ xs) t zero d h = and_left (f x) (every f xs) t
 every_at f (x ∷ xs) t (suc i) d h = every_at f xs (and_right (f x) (every f xs) t) i d (le_of_suc-le-suc h)
 
-given : (f : Figure) (v : ℕ) → gives f v ≡ true → f ≡ Value v
-given Refused v e = absurd (mathlib.Core.Bool.false≢true e)
-given (Value x) v e = ap Value (eqb-true x v e)
+given : (answer : Result ℕ Refusal) (v : ℕ) → gives answer v ≡ true → answer ≡ Ok v
+given (Ok x) v e = ap Ok (eqb-true x v e)
+given (Err refusal) v e = absurd (mathlib.Core.Bool.false≢true e)
 
 -- the one computed test
 all_agree : every agrees sizes ≡ true

@@ -11,13 +11,6 @@ pub struct SizePair {
     pub size: u64,
 }
 
-// What stands at an index of the table.
-#[derive(Clone, Copy)]
-pub enum Listed {
-    Pair(SizePair),
-    PastEnd,
-}
-
 // The sizes of document 000's Table III: tREFW 64,000,000, tRC 45, tmov 1,370 and 16 banks.
 pub const SIZES: [SizePair; 6] = [
     SizePair {
@@ -48,12 +41,8 @@ pub const SIZES: [SizePair; 6] = [
 
 // The pair at an index of the table.
 #[tactic(auto, unfolding(crate::specs::Table::listed_at))]
-pub fn size_at(i: usize) -> Listed
+pub fn size_at(i: usize) -> Option<SizePair>
     ensures { result ≡ listed_at i }
 {
-    if i < 6 {
-        Listed::Pair(SIZES[i])
-    } else {
-        Listed::PastEnd
-    }
+    SIZES.get(i).copied()
 }

@@ -1,6 +1,6 @@
 -- Within the ranges: how large each product of the sums can be, and that no divisor is 0. Assumes nothing.
-use Prim.Native.Nat.{◌-◌, ◌*◌, ◌≤◌, ◌<◌}
-use mathlib.Core.Path.{◌≡◌}
+use Prim.Native.Nat.{ℕ, ◌+◌, ◌-◌, ◌*◌, ◌/◌, ◌%◌, ◌≤◌, ◌<◌, min}
+use mathlib.Core.Path.{◌≡◌, sym, ap, ◌∙◌}
 use mathlib.Core.Bool.{true}
 use native.Mathlib.Nat.{mul-le-mul}
 use native.Mathlib.Omega.{arith}
@@ -9,7 +9,17 @@ use Rattle.basics.specs.Ranges.{in_range}
 use Rattle.basics.proofs.Tests.{and_left, and_right, low, high}
 use Rattle.sizing.specs.declared.SizeTimes.{SizeTimes}
 use Rattle.sizing.specs.declared.RefreshTimes.{RefreshTimes}
-use Rattle.sizing.specs.Sums.{size_ranges_hold, activation_ranges_hold}
+use Rattle.sizing.specs.Sums.{size_ranges_hold, activation_ranges_hold, divided_up}
+use Rattle.std.proofs.lemmas.Grind.{div_ceil_times}
+use Rattle.std.proofs.lemmas.Nat.{div-mul-add}
+
+-- the library's quotient that is rounded up is that of the sums
+pub rounded_up : (x y : ℕ) → 0 < y → x / y + min 1 (x % y) ≡ divided_up x y
+rounded_up x y h =
+    let m = x / y + min 1 (x % y) in
+    let t = div_ceil_times x y h in
+    let e : m * y + (x + (y - 1) - m * y) ≡ x + (y - 1) = omega (arith, t) in
+    sym (ap (λ (n : ℕ). n / y) (sym e) ∙ div-mul-add m y (x + (y - 1) - m * y) (omega (arith, t)))
 
 pub record SizeBounds (t : SizeTimes) : Type 0 where
   pub window : t.trefw * t.banks ≤ 1024000000000

@@ -1,22 +1,22 @@
 -- Document 01, 'Sizing': the two sums, for any argument.
 -- Assumes nothing.
-use Rattle.std.specs.Prelude.{ℕ, ◌+◌, ◌-◌, ◌*◌, ◌/◌, Bool, cond, ◌&&◌, ltb}
+use Rattle.std.specs.Prelude.{ℕ, ◌+◌, ◌-◌, ◌*◌, ◌/◌, Bool, cond, ◌&&◌, ltb, Result, Ok, Err}
 use Rattle.basics.specs.Ranges.{in_range}
 use Rattle.conditions.specs.Conditions.{threshold_in_range}
 use Rattle.sizing.specs.declared.SizeTimes.{SizeTimes}
 use Rattle.sizing.specs.declared.RefreshTimes.{RefreshTimes}
-use Rattle.sizing.specs.declared.Figure.{Figure}
-use Rattle.sizing.specs.declared.Figure.TheVariants.{Refused, Value}
+use Rattle.refusals.specs.declared.Refusal.{Refusal}
+use Rattle.refusals.specs.declared.Refusal.TheVariants.{Settings}
+use Rattle.refusals.specs.Refusals.{number_in}
 
 -- 01's number for an answer: 'settings | 1 | one is outside its range'
-abbrev pub sum_number : Figure → ℕ
-sum_number Refused = 1
-sum_number (Value v) = 0
+abbrev pub sum_number : Result ℕ Refusal → ℕ
+sum_number answer = number_in answer
 
 -- 01's figure in an answer: 'Beside the number a refusal holds nothing: each figure in it is 0'
-abbrev pub sum_value : Figure → ℕ
-sum_value Refused = 0
-sum_value (Value v) = v
+abbrev pub sum_value : Result ℕ Refusal → ℕ
+sum_value (Ok v) = v
+sum_value (Err e) = 0
 
 -- 'tREFW 1 to 1,000,000,000; tRC 1 to 10,000', which both sums take
 abbrev pub window_in_range : ℕ → Bool
@@ -39,11 +39,11 @@ abbrev pub divided_up : ℕ → ℕ → ℕ
 divided_up x y = (x + (y - 1)) / y
 
 -- 'Least quarantine size: tREFW × B divided by (A × tRC + B × tmov), rounded up'
-unfoldable pub least_size : SizeTimes → Figure
+unfoldable pub least_size : SizeTimes → Result ℕ Refusal
 least_size t =
     cond (size_ranges_hold t)
-    (Value (divided_up (t.trefw * t.banks) (t.threshold * t.trc + t.banks * t.tmov)))
-    Refused
+    (Ok (divided_up (t.trefw * t.banks) (t.threshold * t.trc + t.banks * t.tmov)))
+    (Err Settings)
 
 -- 'tmov and tREFI 1 to 1,000,000; tRFC 0 to tREFI − 1'
 unfoldable pub activation_ranges_hold : RefreshTimes → Bool
@@ -54,8 +54,8 @@ activation_ranges_hold t =
     && ltb t.trfc t.trefi
 
 -- 'Most activations: tREFW × (tREFI − tRFC) divided by (tREFI × tRC), rounded down'
-unfoldable pub most_activations : RefreshTimes → Figure
+unfoldable pub most_activations : RefreshTimes → Result ℕ Refusal
 most_activations t =
     cond (activation_ranges_hold t)
-    (Value (t.trefw * (t.trefi - t.trfc) / (t.trefi * t.trc)))
-    Refused
+    (Ok (t.trefw * (t.trefi - t.trfc) / (t.trefi * t.trc)))
+    (Err Settings)

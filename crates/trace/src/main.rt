@@ -7,25 +7,11 @@ ghost use Rattle.input.specs.Input.{bytes_read};
 ghost use Rattle.replay.specs.Replay.{page_room};
 ghost use Rattle.trace.specs.Trace.{printed_for};
 
-use input::Input;
 use std::io;
 use std::io::{Cursor, Write};
 
 // The buffer for the text has one byte more than the longest file, so that a longer one is seen to be longer.
 const TEXT: usize = 65537;
-
-fn text_buffer() -> [u8; TEXT]
-    ensures { 65537 ≡ length result }
-{
-    [0u8; TEXT]
-}
-
-// What any file prints fits the page.
-fn page_buffer() -> [u8; replay::PAGE]
-    ensures { page_room ≡ length result }
-{
-    [0u8; replay::PAGE]
-}
 
 // The system's words of an error, without the number that stands behind them.
 fn system_words(text: &str) -> &str {
@@ -47,17 +33,17 @@ fn fail(rt: &impl Eprint, what: &str, error: io::Error) {
 }
 
 // Prints on the page, and returns how many bytes were printed. Says why where a read failed.
-fn put_lines(rt: &impl Eprint, got: Input, text: &[u8], page: &mut [u8]) -> usize
+fn put_lines(rt: &impl Eprint, got: io::Result<usize>, text: &[u8], page: &mut [u8]) -> usize
     requires { (bytes_read got ≤ length text.now) × (page_room ≤ length page.old) }
     ensures short { result ≤ length page.new }
     ensures printed { take result page.new ≡ printed_for got text.now }
 {
     match got {
-        Input::Failed(error) => {
+        Ok(count) => replay::replay(&text[..count], page),
+        Err(error) => {
             fail(rt, "trace: standard input", error);
             replay::put_refused(page)
         }
-        Input::Read(count) => replay::replay(&text[..count], page),
     }
 }
 
@@ -69,10 +55,11 @@ fn write_out(rt: &(impl Print + Eprint), page: &[u8]) {
 }
 
 fn main(rt: HostRuntime) {
-    let mut text = text_buffer();
+    let mut text = [0u8; TEXT];
     let mut stdin = rt.stdin();
     let got = input::read_all(&mut stdin, &mut text);
-    let mut page = page_buffer();
+    // what any file prints fits the page
+    let mut page = [0u8; replay::PAGE];
     let printed = put_lines(&rt, got, &text, &mut page);
     write_out(&rt, &page[..printed]);
 }

@@ -1,24 +1,27 @@
--- The form of a trace, from the list that holds its numbers, and from what was read of a text. Assumes nothing.
-use Prim.Native.Nat.{ℕ, ◌+◌, ◌<◌, ◌≤◌}
+-- The form of a trace, from the list of its numbers, and from what was read of a text. Assumes nothing.
+use Prim.Native.Nat.{ℕ, ◌+◌, ◌-◌, ◌<◌, ◌≤◌}
 use native.Mathlib.Nat.{le_refl}
 use native.Mathlib.Omega.{arith}
-use mathlib.Core.Path.{◌≡◌, refl, sym, ap, ◌∙◌}
-use mathlib.Core.Logic.{◌≢◌, ◌⊎◌, inl, inr}
-use mathlib.Core.Bool.{Bool, true, false, cond, ◌&&◌, false≢true}
+use mathlib.Core.Path.{◌≡◌, refl, sym, ap, ◌∙◌, subst}
+use mathlib.Core.Logic.{◌⊎◌, inl, inr}
+use mathlib.Core.Bool.{Bool, true, false, cond, ◌&&◌}
 use mathlib.Core.List.{List}
-use mathlib.Core.Option.{Option, none, some, some-injective, some-ne-none}
 use lib.Dec.{eqb, leb}
 use lib.ListN.{length, get_or, take, drop}
-use lib.Seq.{length-take-le, get_or-take, take-take, take-add, drop_at}
-use borrow.Author.Tests.{le-leb, lt-leb, leb-true, leb-false, eqb-true}
-use Rattle.basics.proofs.Cases.{split}
+use lib.Seq.{length-take-le, take-take, take-add, drop_at, take_all}
+use borrow.Author.Tests.{eq-eqb, ne_eqb, le-leb, lt-leb, leb-true, leb-false, eqb-true}
+use Rattle.std.specs.Prelude.{Option, None, Some}
+use Rattle.std.specs.declared.ops.Range.{Range}
+use Rattle.std.proofs.lemmas.Option.{none-some, same_Some}
+use Rattle.basics.proofs.Cases.{split, eq?}
 use Rattle.basics.proofs.Tests.{and_left, and_right}
 use Rattle.number_text.specs.Numbers.{numbers, readable, numbers_within}
-use Rattle.trace_file.specs.declared.Form.{Form}
-use Rattle.trace_file.specs.declared.Form.TheVariants.{Refused, Trace}
+use Rattle.geometry.specs.declared.Settings.{Settings}
 use Rattle.trace_file.specs.Form.{first_count, second_count, steps_at, is_first_count, has_sections, banks_in, settings_of}
 use Rattle.trace_file.specs.Form.{Recorded, form_of, recorded, sections, file_fits, form_in, trace_in}
 use Rattle.trace_file.specs.Form.{most_numbers, form_within, trace_within, StepsWithin}
+use Rattle.trace_file.specs.declared.Trace.{Trace}
+use Rattle.trace_file.specs.Trace.{counted}
 
 -- a first count that is taken
 first_known : (x : ℕ) → is_first_count x ≡ true → (x ≡ 6) ⊎ (x ≡ 7)
@@ -52,31 +55,93 @@ module _ (xs : List ℕ) where
       }
 
   -- else it is refused
-  not_sectioned : (Sectioned xs → ⊥) → form_of xs ≡ Refused
-  not_sectioned n = elim (split (has_sections xs)) [ inl e ↦ absurd (n (sectioned e)) | inr e ↦ rw e refl ]
+  not_sectioned : (Sectioned xs → ⊥) → has_sections xs ≡ false
+  not_sectioned n = elim (split (has_sections xs)) [ inl e ↦ absurd (n (sectioned e)) | inr e ↦ e ]
 
-  other_first : is_first_count (first_count xs) ≡ false → form_of xs ≡ Refused
-  other_first e = not_sectioned (λ s. false≢true (sym e ∙ s.taken))
+  no_form : has_sections xs ≡ false → form_of xs ≡ None
+  no_form e = rw e refl
+
+  -- neither six settings and a second count, nor seven
+  pub other_form : (first_count xs ≡ 6 → 8 ≤ length xs → ⊥) → (first_count xs ≡ 7 → 9 ≤ length xs → ⊥) → form_of xs ≡ None
+  other_form six seven =
+      no_form
+      (not_sectioned
+      (λ s. elim (first_known (first_count xs) s.taken) [
+        | inl e ↦ six e (omega (arith, s.whole))
+        | inr e ↦ seven e (omega (arith, s.whole))
+      ]))
 
   -- no second section: fewer numbers than the first count requires, or than any first count requires
-  pub one_section : length xs < steps_at xs → form_of xs ≡ Refused
-  one_section h = not_sectioned (λ s. omega (arith, s.whole))
+  pub one_section : length xs < steps_at xs → sections xs ≡ None
+  one_section h = rw (not_sectioned (λ s. omega (arith, s.whole))) refl
 
-  pub fewer_than_eight : length xs < 8 → form_of xs ≡ Refused
-  fewer_than_eight h = not_sectioned (λ s. omega (arith, s.whole, first-least (first_count xs) s.taken))
+  pub fewer_than_eight : length xs < 8 → sections xs ≡ None
+  fewer_than_eight h = rw (not_sectioned (λ s. omega (arith, s.whole, first-least (first_count xs) s.taken))) refl
 
   -- more numbers than the longest trace has
-  too_many : most_numbers < length xs → form_of xs ≡ Refused
-  too_many h = not_sectioned (λ s. omega (arith, s.whole, s.few, first_most (first_count xs) s.taken))
+  too_many : most_numbers < length xs → form_of xs ≡ None
+  too_many h = no_form (not_sectioned (λ s. omega (arith, s.whole, s.few, first_most (first_count xs) s.taken)))
 
--- ---- its first `count` numbers
+-- the same test, of the numbers after the first k
+eqb_behind : (n k c : ℕ) → k ≤ n → eqb n (k + c) ≡ eqb (n - k) c
+eqb_behind n k c h =
+    elim (eq? (n - k) c) [
+      | inl e ↦ rw (eq-eqb (n - k) c e) (eq-eqb n (k + c) (omega (arith, e)))
+      | inr e ↦ rw (ne_eqb (n - k) c e) (ne_eqb n (k + c) (λ f. e (omega (arith, f))))
+    ]
 
--- the test that the code makes of the second section
-abbrev pub counted : List ℕ → ℕ → Bool
-counted list count = leb (second_count list) 4096 && eqb count (steps_at list + second_count list)
+-- a first count that is taken, and a second one
+module _ (xs : List ℕ) (first : ℕ) (is : first_count xs ≡ first) (known : is_first_count first ≡ true) (enough : first + 2 ≤ length xs) where
+  abbrev count : ℕ
+  count = get_or xs (first + 1) 0
+
+  -- the places of all that follows
+  abbrev places : Range ℕ
+  places = record { start = first + 2; end = length xs }
+
+  tested : has_sections xs ≡ (leb count 4096 && eqb (length xs - (first + 2)) count)
+  unfolding has_sections
+  tested = rw (is, known, eqb_behind (length xs) (first + 2) count enough) refl
+
+  pub with_settings : counted (settings_of xs) count places ≡ form_of xs
+  with_settings =
+      sym (elim (split (leb count 4096 && eqb (length xs - (first + 2)) count)) [
+        | inl e ↦
+            let same = eqb-true (length xs - (first + 2)) count (and_right (leb count 4096) _ e) in
+            let whole : length xs ≡ first + 2 + count = omega (arith, same, enough) in
+            rw (tested, e, is, whole) refl
+        | inr e ↦ rw (tested, e) refl
+      ])
+
+-- six settings, or seven, as the match has them
+abbrev with_banks : List ℕ → ℕ → Settings
+with_banks xs b = record (settings_of xs) { b = b }
+
+module _ (xs : List ℕ) where
+  one_bank : first_count xs ≡ 6 → banks_in xs ≡ 1
+  unfolding banks_in
+  one_bank e = rw e refl
+
+  seventh : first_count xs ≡ 7 → banks_in xs ≡ get_or xs 7 0
+  unfolding banks_in
+  seventh e = rw e refl
+
+  pub six_form : first_count xs ≡ 6 → 8 ≤ length xs
+      → counted (with_banks xs 1) (get_or xs 7 0) (record { start = 8; end = length xs }) ≡ form_of xs
+  six_form e h =
+      ap (λ (b : ℕ). counted (with_banks xs b) (get_or xs 7 0) (record { start = 8; end = length xs })) (sym (one_bank e))
+      ∙ with_settings xs 6 e refl h
+
+  pub seven_form : first_count xs ≡ 7 → 9 ≤ length xs
+      → counted (with_banks xs (get_or xs 7 0)) (get_or xs 8 0) (record { start = 9; end = length xs }) ≡ form_of xs
+  seven_form e h =
+      ap (λ (b : ℕ). counted (with_banks xs b) (get_or xs 8 0) (record { start = 9; end = length xs })) (sym (seventh e))
+      ∙ with_settings xs 7 e refl h
+
+-- ---- the steps stand in the list
 
 module _ (list : List ℕ) (count : ℕ) (room : count ≤ length list) where
-  -- the steps end where the numbers end, and are the same in the whole list
+  -- they end where the numbers end, and are the same in the whole list
   steps_same : (first steps : ℕ) → count ≡ first + steps
       → take steps (drop first list) ≡ take steps (drop first (take count list))
   steps_same first steps e =
@@ -87,146 +152,120 @@ module _ (list : List ℕ) (count : ℕ) (room : count ≤ length list) where
       ∙ drop_at (take first list) part first (length-take-le first list (omega arith)) in
       sym (ap (take steps) cut ∙ take-take steps steps (drop first list) (le_refl steps))
 
-  pub said_in_list : recorded (form_of (take count list)) list ≡ sections (take count list)
+  said_in_list : recorded (form_of (take count list)) list ≡ sections (take count list)
   said_in_list =
       let xs = take count list in
-      let trace : List ℕ → Option Recorded = λ steps. some (record { settings = settings_of xs; steps = steps }) in
+      let trace : List ℕ → Option Recorded = λ steps. Some (record { settings = settings_of xs; steps = steps }) in
+      let many : steps_at xs + second_count xs - steps_at xs ≡ second_count xs = omega arith in
       elim (split (has_sections xs)) [
         | inl e ↦
             let whole = sym (length-take-le count list room) ∙ (sectioned xs e).whole in
-            rw e (ap trace (steps_same (steps_at xs) (second_count xs) whole))
+            rw (e, many) (ap trace (steps_same (steps_at xs) (second_count xs) whole))
         | inr e ↦ rw e refl
       ]
 
-  pub no_numbers : count ≡ 0 → form_of (take count list) ≡ Refused
-  no_numbers e = one_section (take count list) (omega (arith, length-take-le count list room))
-
-  module _ (Some-number : count ≢ 0) where
-    first-same : first_count (take count list) ≡ first_count list
-    first-same = get_or-take count list 0 0 (omega arith)
-
-    pub first-refused : is_first_count (first_count list) ≡ false → form_of (take count list) ≡ Refused
-    first-refused e = other_first (take count list) (ap is_first_count first-same ∙ e)
-
-    pub too_few : count < steps_at list → form_of (take count list) ≡ Refused
-    too_few h = one_section (take count list) (omega (arith, first-same, length-take-le count list room))
-
-    module _ (first : is_first_count (first_count list) ≡ true) (enough : steps_at list ≤ count) where
-      at : (i : ℕ) → i < 8 → get_or (take count list) i 0 ≡ get_or list i 0
-      at i h = get_or-take count list i 0 (omega (arith, first-least (first_count list) first))
-
-      second_same : get_or (take count list) (first_count list + 1) 0 ≡ second_count list
-      second_same = get_or-take count list (first_count list + 1) 0 (omega arith)
-
-      tested : has_sections (take count list) ≡ counted list count
-      unfolding has_sections
-      tested = rw (first-same, first, second_same, length-take-le count list room)
-
-      pub not_formed : counted list count ≡ false → form_of (take count list) ≡ Refused
-      not_formed e = rw (tested, e)
-
-      settings-same : settings_of (take count list) ≡ settings_of list
-      unfolding banks_in
-      settings-same =
-          rw (
-            at 0 (omega arith),
-            at 1 (omega arith),
-            at 2 (omega arith),
-            at 3 (omega arith),
-            at 4 (omega arith),
-            at 5 (omega arith),
-            at 6 (omega arith),
-            at 7 (omega arith),
-          )
-
-      pub well_formed : counted list count ≡ true
-          → form_of (take count list) ≡ Trace (settings_of list) (steps_at list) (second_count list)
-      well_formed e = rw (tested, e) (rw (settings-same, first-same, second_same))
-
--- ---- where the steps stand
-
-within_if : (test : Bool) (form : Form) → (test ≡ true → StepsWithin form) → StepsWithin (cond test form Refused)
+-- within the numbers of the longest trace
+within_if : (test : Bool) (form : Option Trace) → (test ≡ true → StepsWithin form) → StepsWithin (cond test form None)
 within_if true form h = h refl
-within_if false form h = (omega arith, omega arith)
+within_if false form h = tt
 
 pub form-within : (room : ℕ) (text : List ℕ) → StepsWithin (form_within room text)
 unfolding form_within form_in
 form-within room text =
     let xs = numbers text in
+    let places : Range ℕ = record { start = steps_at xs; end = steps_at xs + second_count xs } in
     within_if (leb most_numbers room) (form_in text)
     (λ wide. within_if (file_fits text && readable text) (form_of xs)
-    (λ read. within_if (has_sections xs) (Trace (settings_of xs) (steps_at xs) (second_count xs))
-    (λ e. let s = sectioned xs e in (omega (arith, first_most (first_count xs) s.taken), s.few))))
+    (λ read. within_if (has_sections xs) (Some (record { settings = settings_of xs; steps = places }))
+    (λ e. let s = sectioned xs e in (omega (arith, first_most (first_count xs) s.taken), omega arith, omega (arith, s.few)))))
+
+pub steps_within : (room : ℕ) (text : List ℕ) {form : Option Trace} → form ≡ form_within room text → StepsWithin form
+steps_within room text e = subst StepsWithin (sym e) (form-within room text)
 
 -- ---- a text, read into a list of `room` places
 
--- two forms that are one say the same
-pub said_same : (list : List ℕ) {form other : Form} → form ≡ other → recorded form list ≡ recorded other list
-said_same list e = ap (λ (f : Form). recorded f list) e
+-- what a text's form says is what the text says
+module _ (text : List ℕ) where
+  numbers_say : recorded (form_of (numbers text)) (numbers text) ≡ sections (numbers text)
+  numbers_say =
+      let xs = numbers text in
+      let all = take_all (length xs) xs (le_refl (length xs)) in
+      subst (λ (ys : List ℕ). recorded (form_of ys) xs ≡ sections ys) all (said_in_list xs (length xs) (le_refl (length xs)))
+
+  pub form_says : (room : ℕ) → recorded (form_within room text) (numbers text) ≡ trace_within room text
+  unfolding form_within form_in trace_within trace_in
+  form_says room =
+      elim (split (leb most_numbers room)) [
+        | inl wide ↦ elim (split (file_fits text && readable text)) [
+          | inl f ↦ rw (wide, f) numbers_say
+          | inr f ↦ rw (wide, f) refl
+        ]
+        | inr small ↦ rw small refl
+      ]
 
 -- the text is refused, as `parse` promises it
 abbrev Refuses : ℕ → List ℕ → Type 0
-Refuses room text = (Refused ≡ form_within room text) × (none ≡ trace_within room text)
+Refuses room text = (None ≡ form_within room text) × (None ≡ trace_within room text)
 
 module _ (text : List ℕ) (room : ℕ) where
-  refuses : form_within room text ≡ Refused → Refuses room text
-  refuses e = (sym e, said_same (numbers text) (sym e))
+  refuses : form_within room text ≡ None → Refuses room text
+  refuses e = (sym e, ap (λ (f : Option Trace). recorded f (numbers text)) (sym e) ∙ form_says text room)
 
   pub no_room : room < most_numbers → Refuses room text
   unfolding form_within
-  no_room h = refuses (rw (lt-leb most_numbers room h))
+  no_room h = refuses (rw (lt-leb most_numbers room h) refl)
 
   module _ (wide : most_numbers ≤ room) where
-    enough_room : form_within room text ≡ form_in text
+    wide_form : form_within room text ≡ form_in text
     unfolding form_within
-    enough_room = rw (le-leb most_numbers room wide)
+    wide_form = rw (le-leb most_numbers room wide) refl
 
-    pub all_said : trace_within room text ≡ trace_in text
-    unfolding trace_in
-    all_said = said_same (numbers text) enough_room
+    pub enough_room : trace_within room text ≡ trace_in text
+    unfolding trace_within
+    enough_room = rw (le-leb most_numbers room wide) refl
 
     pub too_long : 65536 < length text → Refuses room text
     unfolding form_in
-    too_long h = refuses (rw (enough_room, lt-leb (length text) 65536 h))
+    too_long h = refuses (rw (wide_form, lt-leb (length text) 65536 h) refl)
 
     module _ (short : length text ≤ 65536) where
       -- no trace is lost for want of room
-      pub none_read : none ≡ numbers_within room text → Refuses room text
+      pub none_read : None ≡ numbers_within room text → Refuses room text
       unfolding form_in numbers_within
       none_read e =
           refuses
-          (rw (enough_room, le-leb (length text) 65536 short)
+          (rw (wide_form, le-leb (length text) 65536 short)
           (elim (split (readable text)) [
             | inl r ↦ rw r (elim (split (leb (length (numbers text)) room)) [
-              | inl f ↦ absurd (some-ne-none (numbers text) (sym (rw (r, f) at e)))
+              | inl f ↦ absurd (none-some (numbers text) (rw (r, f) at e))
               | inr f ↦ too_many (numbers text) (omega (arith, leb-false (length (numbers text)) room f))
             ])
-            | inr r ↦ rw r
+            | inr r ↦ rw r refl
           ]))
 
-      -- xs was read: it has all numbers, and they tell the form
-      all_read : (xs : List ℕ) → some xs ≡ numbers_within room text
+      -- xs was read: these are all numbers, and they tell the form
+      all_read : (xs : List ℕ) → Some xs ≡ numbers_within room text
           → (xs ≡ numbers text) × (form_of (numbers text) ≡ form_within room text)
       unfolding form_in numbers_within
       all_read xs e =
           elim (split (readable text && leb (length (numbers text)) room)) [
             | inl f ↦
-                let read = and_left (readable text) (leb (length (numbers text)) room) f in (
-                  some-injective xs (numbers text) (rw f at e),
-                  rw (enough_room, le-leb (length text) 65536 short, read) refl,
-                )
-            | inr f ↦ absurd (some-ne-none xs (rw f at e))
+                let read = and_left (readable text) (leb (length (numbers text)) room) f in
+                (same_Some xs (numbers text) (rw f at e), rw (wide_form, le-leb (length text) 65536 short, read) refl)
+            | inr f ↦ absurd (none-some xs (sym (rw f at e)))
           ]
 
       -- the first `count` numbers of the list were read
-      pub some_read : {form : Form} (list : List ℕ) (count : ℕ) → count ≤ length list
-          → some (take count list) ≡ numbers_within room text → form ≡ form_of (take count list)
+      pub some_read : {form : Option Trace} (list : List ℕ) (count : ℕ) → count ≤ length list
+          → Some (take count list) ≡ numbers_within room text → form ≡ form_of (take count list)
           → (form ≡ form_within room text) × (recorded form list ≡ trace_within room text)
       some_read list count fits e f =
           let read = all_read (take count list) e in (
             f ∙ ap form_of read.0 ∙ read.1,
-            said_same list f
+            ap (λ (g : Option Trace). recorded g list) f
                 ∙ said_in_list list count fits
                 ∙ ap sections read.0
-                ∙ said_same (numbers text) read.1,
+                ∙ sym (numbers_say text)
+                ∙ ap (λ (g : Option Trace). recorded g (numbers text)) read.1
+                ∙ form_says text room,
           )

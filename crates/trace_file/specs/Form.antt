@@ -1,11 +1,12 @@
 -- Document 01, 'Trace program': the form of a trace file, with document 02, Ask 5, on the number of banks. Document 02, Ask 1:
 -- the empty trace, which has no form.
 -- Assumes nothing.
-use Rattle.std.specs.Prelude.{ℕ, ◌+◌, ◌≤◌, Bool, cond, ◌&&◌, ◌||◌, List, eqb, leb, length, get_or, take, drop}
-use Rattle.std.proofs.Math.Option.{Option, none, some}
+use Rattle.std.specs.Prelude.{ℕ, ◌+◌, ◌-◌, ◌≤◌, Bool, cond, ◌&&◌, ◌||◌, List, eqb, leb, length, get_or, take, drop}
+use Rattle.std.specs.Prelude.{Option, None, Some, IfSome}
+use Rattle.std.specs.Option.{option_map}
+use Rattle.std.specs.declared.ops.Range.{Range}
 use Rattle.geometry.specs.declared.Settings.{Settings}
-use Rattle.trace_file.specs.declared.Form.{Form}
-use Rattle.trace_file.specs.declared.Form.TheVariants.{Refused, Trace}
+use Rattle.trace_file.specs.declared.Trace.{Trace}
 use Rattle.number_text.specs.Numbers.{blank, numbers, readable}
 
 -- what a trace file says
@@ -53,19 +54,24 @@ settings_of xs =
       b = banks_in xs;
     }
 
--- what the numbers are: refused where they are not in two sections, else the settings, where the steps begin, and how many
--- there are
-abbrev pub form_of : List ℕ → Form
-form_of xs = cond (has_sections xs) (Trace (settings_of xs) (steps_at xs) (second_count xs)) Refused
+-- what the numbers are: None where they are not in two sections, else the settings, and where the steps begin and end
+abbrev pub form_of : List ℕ → Option Trace
+form_of xs =
+    let places : Range ℕ = record { start = steps_at xs; end = steps_at xs + second_count xs } in
+    cond (has_sections xs) (Some (record { settings = settings_of xs; steps = places })) None
 
 -- what a form says, with the list in which the steps stand
-abbrev pub recorded : Form → List ℕ → Option Recorded
-recorded Refused list = none
-recorded (Trace settings first count) list = some (record { settings = settings; steps = take count (drop first list) })
+abbrev pub recorded : Option Trace → List ℕ → Option Recorded
+recorded form list =
+    let stand : Trace → List ℕ = λ trace. take (trace.steps.end - trace.steps.start) (drop trace.steps.start list) in
+    option_map (λ trace. record { settings = trace.settings; steps = stand trace }) form
 
--- what the numbers say
+-- what the numbers say; None where they are not in two sections
 abbrev pub sections : List ℕ → Option Recorded
-sections xs = recorded (form_of xs) xs
+sections xs =
+    cond (has_sections xs)
+    (Some (record { settings = settings_of xs; steps = take (second_count xs) (drop (steps_at xs) xs) }))
+    None
 
 -- ---- files
 
@@ -74,12 +80,12 @@ abbrev pub file_fits : List ℕ → Bool
 file_fits text = leb (length text) 65536
 
 -- the form of a file
-unfoldable pub form_in : List ℕ → Form
-form_in text = cond (file_fits text && readable text) (form_of (numbers text)) Refused
+unfoldable pub form_in : List ℕ → Option Trace
+form_in text = cond (file_fits text && readable text) (form_of (numbers text)) None
 
--- what a file says; none where its form is refused
+-- what a file says; None where its form is refused
 unfoldable pub trace_in : List ℕ → Option Recorded
-trace_in text = recorded (form_in text) (numbers text)
+trace_in text = cond (file_fits text && readable text) (sections (numbers text)) None
 
 -- 'A file of no bytes, or of blanks and newlines alone within 01's file length' (document 02, Ask 1)
 unfoldable pub is_empty_trace : List ℕ → Bool
@@ -92,24 +98,17 @@ abbrev pub most_numbers : ℕ
 most_numbers = 4105
 
 -- with fewer places than that the file is refused
-unfoldable pub form_within : ℕ → List ℕ → Form
-form_within room text = cond (leb most_numbers room) (form_in text) Refused
+unfoldable pub form_within : ℕ → List ℕ → Option Trace
+form_within room text = cond (leb most_numbers room) (form_in text) None
 
 -- what is then said
-abbrev pub trace_within : ℕ → List ℕ → Option Recorded
-trace_within room text = recorded (form_within room text) (numbers text)
+unfoldable pub trace_within : ℕ → List ℕ → Option Recorded
+trace_within room text = cond (leb most_numbers room) (trace_in text) None
 
 -- ---- where the steps stand
 
--- where they begin, and how many there are
-abbrev pub first_step : Form → ℕ
-first_step Refused = 0
-first_step (Trace settings first count) = first
-
-abbrev pub step_count : Form → ℕ
-step_count Refused = 0
-step_count (Trace settings first count) = count
-
 -- within the numbers of the longest trace
-abbrev pub StepsWithin : Form → Type 0
-StepsWithin form = (first_step form ≤ 9) × (step_count form ≤ 4096)
+abbrev pub StepsWithin : Option Trace → Type 0
+StepsWithin form =
+    IfSome form
+    (λ trace. (trace.steps.start ≤ 9) × (trace.steps.start ≤ trace.steps.end) × (trace.steps.end - trace.steps.start ≤ 4096))

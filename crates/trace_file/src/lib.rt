@@ -2,22 +2,19 @@
 // without numbers is an empty trace (document 02, Ask 1). The public functions answer for any text.
 #![tactic(auto)]
 
-ghost use Rattle.std.specs.Prelude.{◌≡◌, ◌≤◌, length, take};
-ghost use Rattle.trace_file.specs.Form.{banks_in, settings_of, form_of, is_empty_trace};
-ghost use Rattle.trace_file.specs.Form.{recorded, form_within, trace_within};
+ghost use Rattle.std.specs.Prelude.{◌≡◌, ◌≤◌, length};
+ghost use Rattle.trace_file.specs.Form.{form_of, form_within, is_empty_trace, recorded, trace_within};
+ghost use Rattle.trace_file.specs.Trace.{counted};
 
 use geometry::Settings;
-use number_text::Numbers;
+use std::ops::Range;
 
-// What a trace file is: refused, or settings and so many steps, which stand in the lent list from index `first` on.
-#[derive(Clone, Copy)]
-pub enum Form {
-    Refused,
-    Trace {
-        settings: Settings,
-        first: usize,
-        count: usize,
-    },
+// What a trace file says: its settings, and the places in the lent list where its steps stand. Places, and not a slice of the
+// list: the promise `said` on what stands in the list is proved where the result does not borrow from it.
+#[derive(Clone, Drop)]
+pub struct Trace {
+    pub settings: Settings,
+    pub steps: Range<usize>,
 }
 
 // The longest trace file, in bytes.
@@ -26,79 +23,71 @@ const MOST_BYTES: usize = 65536;
 // The numbers of the longest trace.
 pub const MOST_NUMBERS: usize = 4105;
 
-// The banks of a trace: one where the first count is 6, and as many as the seventh setting says where it is 7.
-#[tactic(auto, unfolding(crate::specs::Form::banks_in))]
-fn banks_in(numbers: &[u32]) -> u32
-    requires { 8 ≤ length numbers.now }
-    ensures { result ≡ banks_in numbers.now }
+// The trace with these settings, and steps at these places, if the second count is theirs.
+fn with_steps(settings: Settings, count: u32, steps: Range<usize>) -> Option<Trace>
+    ensures { result ≡ counted settings count steps }
 {
-    if numbers[0] == 6 {
-        return 1;
+    let whole = (count <= 4096) & (steps.len() == count as usize);
+    if !whole {
+        return None;
     }
-    numbers[7]
+    Some(Trace { settings, steps })
 }
 
-// The settings of a trace.
-fn settings_of(numbers: &[u32]) -> Settings
-    requires { 8 ≤ length numbers.now }
-    ensures { result ≡ settings_of numbers.now }
+// The sections of a trace of these numbers. It has one bank where the first count is 6, and as many as the seventh setting says
+// where it is 7.
+fn sections_of(numbers: &[u32]) -> Option<Trace>
+    ensures { result ≡ form_of numbers.now }
 {
-    Settings {
-        n: numbers[1],
-        q: numbers[2],
-        w: numbers[3],
-        k: numbers[4],
-        a: numbers[5],
-        l: numbers[6],
-        b: banks_in(numbers),
-    }
-}
-
-// The sections of a trace whose numbers are the first `count` of the list.
-fn sections_of(numbers: &[u32], count: usize) -> Form
-    requires { count ≤ length numbers.now }
-    ensures { result ≡ form_of (take count numbers.now) }
-{
-    if count == 0 {
-        return Form::Refused;
-    }
-    let settings = numbers[0] as usize;
-    if !((settings == 6) | (settings == 7)) {
-        return Form::Refused;
-    }
-    let first = settings + 2;
-    if count < first {
-        return Form::Refused;
-    }
-    let steps = numbers[settings + 1] as usize;
-    let has_steps = (steps <= 4096) & (count == first + steps);
-    if !has_steps {
-        return Form::Refused;
-    }
-    Form::Trace {
-        settings: settings_of(numbers),
-        first: first,
-        count: steps,
+    match *numbers {
+        [6, n, q, w, k, a, l, count, ..] => {
+            with_steps(
+                Settings {
+                    n,
+                    q,
+                    w,
+                    k,
+                    a,
+                    l,
+                    b: 1,
+                },
+                count,
+                8..numbers.len(),
+            )
+        }
+        [7, n, q, w, k, a, l, banks, count, ..] => {
+            with_steps(
+                Settings {
+                    n,
+                    q,
+                    w,
+                    k,
+                    a,
+                    l,
+                    b: banks,
+                },
+                count,
+                9..numbers.len(),
+            )
+        }
+        _ => None,
     }
 }
 
 // The trace that a file's bytes are. The lent list takes the numbers: two counts, at most seven settings and at most 4,096
 // steps.
-pub fn parse(text: &[u8], numbers: &mut [u32]) -> Form
+pub fn parse(text: &[u8], numbers: &mut [u32]) -> Option<Trace>
     ensures form { result ≡ form_within (length numbers.old) text.now }
     ensures said { recorded result numbers.new ≡ trace_within (length numbers.old) text.now }
 {
     if numbers.len() < MOST_NUMBERS {
-        return Form::Refused;
+        return None;
     }
     if MOST_BYTES < text.len() {
-        return Form::Refused;
+        return None;
     }
-    let found = number_text::read_numbers(text, numbers);
-    match found {
-        Numbers::Unreadable => Form::Refused,
-        Numbers::Count(count) => sections_of(numbers, count),
-    }
+    let count = number_text::read_numbers(text, numbers)?;
+    sections_of(&numbers[..count])
 }
 
 // Tells whether a file is an empty trace: within the length of a file, it has no bytes, or blanks and newlines alone.

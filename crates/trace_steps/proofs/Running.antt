@@ -9,12 +9,21 @@ use lib.Seq.{drop-cons}
 use Rattle.geometry.specs.declared.Settings.{Settings}
 use Rattle.engine.specs.State.{State, state_of}
 use Rattle.engine.specs.Calls.{Noted, noted_of, set_up}
-use Rattle.epoch.specs.declared.Numbered.{Numbered}
+use Rattle.std.specs.Prelude.{Result, Ok, Err}
+use Rattle.std.specs.Result.{result_unwrap_or}
+use Rattle.refusals.specs.declared.Refusal.{Refusal}
+use Rattle.geometry.specs.declared.Control.{Control}
+use Rattle.epoch.specs.After.{control_after}
 use Rattle.page.specs.Put.{Put}
 use Rattle.lines.specs.declared.Line.{Line}
 use Rattle.line_text.specs.LineText.{line_bytes}
 use Rattle.trace_steps.specs.declared.Stepped.{Stepped}
 use Rattle.trace_steps.specs.Steps.{line_room, stepped_of, stepped, steps_from, lines_from, run_lines}
+
+-- the record after a set-up is what is taken of its answer
+taken_over : (before : Control) (answer : Result Control Refusal) → result_unwrap_or answer before ≡ control_after before answer
+taken_over before (Ok after) = refl
+taken_over before (Err e) = refl
 
 -- two states of one memory
 pub record SameLengths (σ τ : State) : Type 0 where
@@ -82,12 +91,15 @@ module _ (S : Settings) where
             (ap (λ (ys : List ℕ). take at page ++ ys) (next_line σ after steps i r.line h e));
       }
 
-  -- the lists and n: what set-up left of the memory lent, σ₀, and answered
-  pub running_all : {σ : State} {store forward reverse rows counts steps page : List ℕ} {at i : ℕ} {n : Numbered}
-      (σ₀ : State) → length steps ≤ i
-      → Running S (state_of store forward reverse rows counts n.control) steps σ page at i
-      → noted_of (state_of store forward reverse rows counts n.control) n.number ≡ set_up S σ₀
+  -- the lists and `answer`: what set-up left of the memory lent, σ₀, and answered of a record `before`; last: the record as the
+  -- code takes it over
+  pub running_all : {σ : State} {store forward reverse rows counts steps page : List ℕ} {at i number : ℕ} {last : Control}
+      (before : Control) (answer : Result Control Refusal) (σ₀ : State) → length steps ≤ i
+      → Running S (state_of store forward reverse rows counts last) steps σ page at i
+      → last ≡ result_unwrap_or answer before
+      → noted_of (state_of store forward reverse rows counts (control_after before answer)) number ≡ set_up S σ₀
       → take at page ≡ run_lines S σ₀ steps
-  running_all {σ} {store} {forward} {reverse} {rows} {counts} {steps} {page} {at} {i} {n} σ₀ h r made =
+  running_all {σ} {store} {forward} {reverse} {rows} {counts} {steps} {page} {at} {i} before answer σ₀ h r taken made =
       sym (r.whole ∙ rw (drop_of_length-le steps h, lines_nil, append-nil) refl)
+      ∙ ap (λ (c : Control). lines_from 1 (steps_from S (state_of store forward reverse rows counts c) steps)) (taken ∙ taken_over before answer)
       ∙ ap (λ (n : Noted). lines_from 1 (steps_from S n.state steps)) made

@@ -37,7 +37,7 @@ line_of e =
     let a : Answer = e.answer in
     cond (is_access e.call && eqb a.number 0) (access_line a.place a.slot a.row) (bare a.number)
 
--- a step as `trace_steps::step` gives it: the memory after it, and its line
+-- a step as `trace_steps::make_step` gives it: the memory after it, and its line
 pub record StepLine : Type 0 where
   pub state : State
   pub line : Line

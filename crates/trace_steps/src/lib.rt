@@ -1,18 +1,35 @@
 // The steps of a trace, run on the engine, each with its line (document 01, 'Trace program').
 #![tactic(auto)]
 
-ghost use Rattle.std.specs.Prelude.{◌≡◌, ◌*◌, ◌≤◌, length, take, replicate};
+ghost use Rattle.std.specs.Prelude.{◌≡◌, ◌*◌, ◌≤◌, length, take};
 ghost use Rattle.engine.specs.State.{state_of, new_control};
 ghost use Rattle.trace_steps.specs.Steps.{widest, line_room, stepped_of, stepped, run_lines};
+ghost use Rattle.trace_steps.specs.Step.{step_of};
 
+use figures::Outcome;
 use geometry::{Control, Settings};
 use lines::Line;
 
-// The step that is a tick.
+// The step that is a tick, as a trace file has it.
 const TICK: u32 = 65535;
 
 // The widest row, in bytes.
 const WIDEST: usize = 8192;
+
+// A step of a trace: a tick, or a row to read.
+#[derive(Clone, Copy)]
+enum Step {
+    Tick,
+    Read(u32),
+}
+
+impl From<u32> for Step {
+    ghost from_gives = { λ x step. step ≡ step_of x };
+
+    fn from(x: u32) -> Step {
+        if x == TICK { Step::Tick } else { Step::Read(x) }
+    }
+}
 
 // What a step shows: its line, and the control record after it.
 #[derive(Clone, Copy)]
@@ -21,15 +38,8 @@ struct Stepped {
     control: Control,
 }
 
-// Returns zeros for a row, as many as the settings allow.
-fn row_buffer() -> [u8; WIDEST]
-    ensures { result ≡ replicate widest 0 }
-{
-    [0u8; WIDEST]
-}
-
-// Makes one step: a tick, or a read of a row into a buffer of its own.
-fn step(
+// Makes one step: a tick, or a read of a row into a buffer of its own. The lent slices stay parameters, as the calls take them.
+fn make_step(
     control: Control,
     s: Settings,
     x: u32,
@@ -44,31 +54,44 @@ fn step(
         let after = state_of store.new forward.new reverse.new rows.new counts.new result.control in
         stepped_of after result.line ≡ stepped s before x }
 {
-    if x == TICK {
-        let ticked = epoch::tick(control, s, store, forward, reverse, rows, counts);
-        let next = ticked.control;
-        return Stepped {
-            line: lines::bare(ticked.number),
-            control: next,
-        };
-    }
-    let mut buffer = row_buffer();
-    let w = s.w as usize;
-    let read = access::read(
-        control,
-        s,
-        x,
-        &mut buffer[..w],
-        store,
-        forward,
-        reverse,
-        rows,
-        counts,
-    );
-    let outcome = read.outcome;
-    Stepped {
-        line: lines::line_of_access(outcome),
-        control: access::record_after(control, read),
+    match Step::from(x) {
+        Step::Tick => {
+            match epoch::tick(control, s, store, forward, reverse, rows, counts) {
+                Ok(next) => Stepped {
+                    line: Line::bare(0),
+                    control: next,
+                },
+                Err(refusal) => Stepped {
+                    line: Line::bare(refusal.number()),
+                    control,
+                },
+            }
+        }
+        Step::Read(row) => {
+            let mut buffer = [0u8; WIDEST];
+            let w = s.w as usize;
+            let read = access::read(
+                control,
+                s,
+                row,
+                &mut buffer[..w],
+                store,
+                forward,
+                reverse,
+                rows,
+                counts,
+            );
+            match read {
+                Ok(accepted) => Stepped {
+                    line: Line::from(Outcome::from(Ok(accepted.served))),
+                    control: access::record_after(control, accepted),
+                },
+                Err(refusal) => Stepped {
+                    line: Line::from(Outcome::from(Err(refusal))),
+                    control,
+                },
+            }
+        }
     }
 }
 
@@ -89,17 +112,13 @@ pub fn run(
     ensures printed { let lent = state_of store.old forward.old reverse.old rows.old counts.old new_control in
         take result page.new ≡ run_lines s lent steps.now }
 {
-    let new = epoch::set_up(geometry::NEW, s, store, forward, reverse, rows, counts);
-    let mut last = new.control;
+    let set_up = epoch::set_up(geometry::NEW, s, store, forward, reverse, rows, counts);
+    let mut last = set_up.unwrap_or(geometry::NEW);
     let mut at: usize = 0;
-    let mut i: usize = 0;
-    while i < steps.len() {
-        let x = steps[i];
-        i += 1;
-        let done = step(last, s, x, store, forward, reverse, rows, counts);
-        let line = done.line;
+    for (i, x) in steps.iter().enumerate() {
+        let done = make_step(last, s, *x, store, forward, reverse, rows, counts);
         last = done.control;
-        at = line_text::put_line(page, at, i, line);
+        at = line_text::put_line(page, at, i + 1, done.line);
     }
     at
 }

@@ -1,2 +1,3 @@
--- What the callers of the tracker need.
+-- What the callers of the tracker need, and what its search needs.
 pub mod Counts
+mod Searched

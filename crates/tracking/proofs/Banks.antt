@@ -1,19 +1,40 @@
 -- Step 2 in one bank: its entry among those of all banks, and what following it leaves. Assumes nothing.
 use Prim.Native.Nat.{ℕ, suc, ◌+◌, ◌*◌, ◌<◌, ◌≤◌}
 use native.Mathlib.Omega.{arith}
-use mathlib.Core.Path.{◌≡◌, sym, ap, ◌∙◌}
-use mathlib.Core.Logic.{inl, inr, ◌≢◌}
+use mathlib.Core.Path.{◌≡◌, refl, sym, ap, ◌∙◌}
 use mathlib.Core.List.{List}
-use lib.Dec.{eqb}
 use lib.ListN.{length}
-use borrow.Author.Tests.{lt-ltb, le-ltb, eqb-false}
-use Rattle.basics.proofs.Cases.{split, lt?}
+use borrow.Author.Tests.{lt-ltb, le-ltb}
+use Rattle.std.specs.Prelude.{Option, Some, None, option_map}
 use Rattle.basics.specs.Portions.{portion, with_portion}
 use Rattle.basics.proofs.Portions.{length-portion, get_or-portion, set-portion, portion_own}
 use Rattle.scan.specs.Scan.{index_of}
 use Rattle.tracking.specs.Track.{Tracked, track}
 use Rattle.tracking.specs.Entry.{entry_of, entry_found, estimate_at, table_after, spill_after}
-use Rattle.tracking.proofs.Entries.{followed, follow_entry}
+use Rattle.tracking.proofs.Entries.{followed, follow_entry, entry_inside}
+
+module _ (k c : ℕ) where
+  -- an entry of the bank, if any, among those of all banks
+  abbrev pub among : Option ℕ → Option ℕ
+  among o = option_map (λ i. c * k + i) o
+
+  shift : (o : Option ℕ) → ((i : ℕ) → o ≡ Some i → i < k) → (table : List ℕ) → c * k + k ≤ length table → (x : ℕ)
+      → table_after (among o) x table ≡ with_portion k c table (table_after o x (portion k c table))
+  shift None inside table fits x = sym (portion_own k c table fits)
+  shift (Some i) inside table fits x = sym (set-portion k c table fits i x (inside i refl))
+
+  estimate_shift : (o : Option ℕ) → ((i : ℕ) → o ≡ Some i → i < k) → (counts : List ℕ) → c * k + k ≤ length counts
+      → estimate_at (among o) counts ≡ estimate_at o (portion k c counts)
+  estimate_shift None inside counts fits = refl
+  estimate_shift (Some i) inside counts fits = ap suc (sym (get_or-portion k c counts fits i 0 (inside i refl)))
+
+  unshift : (o : Option ℕ) {i : ℕ} → among o ≡ Some i → (j : ℕ) × (o ≡ Some j) × (i ≡ c * k + j)
+  unshift None e = absurd (cc)
+  unshift (Some j) e = (j, refl, cc)
+
+  spill_shift : (o : Option ℕ) (spill : ℕ) → spill_after (among o) spill ≡ spill_after o spill
+  spill_shift None spill = refl
+  spill_shift (Some i) spill = refl
 
 module _ (k c : ℕ) (rows counts : List ℕ) (rows_fit : c * k + k ≤ length rows) (counts_fit : c * k + k ≤ length counts) (p spill : ℕ) where
   rows_long : length (portion k c rows) ≡ k
@@ -22,85 +43,61 @@ module _ (k c : ℕ) (rows counts : List ℕ) (rows_fit : c * k + k ≤ length r
   counts_long : length (portion k c counts) ≡ k
   counts_long = length-portion k c counts counts_fit
 
-  alike : length (portion k c rows) ≡ length (portion k c counts)
-  alike = rows_long ∙ sym counts_long
-
   -- the entry among those of the bank
-  abbrev i : ℕ
-  i = entry_of p (portion k c rows) (portion k c counts) spill
+  abbrev mine : Option ℕ
+  mine = entry_of p (portion k c rows) (portion k c counts) spill
 
   abbrev t : Tracked
   t = track p (portion k c rows) (portion k c counts) spill
 
-  -- and among those of all banks, with its estimate
-  abbrev entry : ℕ
+  -- and among those of all banks
+  abbrev entry : Option ℕ
   entry = entry_found k c p rows counts spill
 
-  abbrev estimate : ℕ
-  estimate = estimate_at entry (c * k + k) counts
+  told : followed mine p (portion k c rows) (portion k c counts) spill ≡ t
+  told = follow_entry p (portion k c rows) (portion k c counts) spill
 
-  told : followed i (estimate_at i (length (portion k c counts)) (portion k c counts)) p (portion k c rows) (portion k c counts) spill ≡ t
-  told = follow_entry p (portion k c rows) (portion k c counts) spill alike
+  pub inside_bank : (i : ℕ) → mine ≡ Some i → i < k
+  inside_bank i e =
+      omega (arith, counts_long, entry_inside p (portion k c rows) (portion k c counts) spill (rows_long ∙ sym counts_long) i e)
 
-  estimate_is : estimate ≡ estimate_at i (length (portion k c counts)) (portion k c counts)
-  unfolding entry_found estimate_at
-  estimate_is =
-      elim (lt? i k) [
-        | inl h ↦
-            let inside : i < length (portion k c counts) = omega (arith, counts_long) in
-            rw (lt-ltb (c * k + i) (c * k + k) (omega arith), lt-ltb i (length (portion k c counts)) inside) (ap suc (sym (get_or-portion k c counts counts_fit i 0 h)))
-        | inr h ↦
-            let outside : length (portion k c counts) ≤ i = omega (arith, counts_long) in
-            rw (le-ltb (c * k + i) (c * k + k) (omega arith), le-ltb i (length (portion k c counts)) outside)
-      ]
-
-  -- an entry with an estimate is one of the bank's
-  pub entry_in_bank : estimate ≢ 0 → entry < c * k + k
-  unfolding estimate_at
-  entry_in_bank n =
-      elim (lt? entry (c * k + k)) [ inl h ↦ h | inr h ↦ absurd (n (rw (le-ltb entry (c * k + k) h))) ]
-
-  inside_bank : estimate ≢ 0 → i < k
-  unfolding entry_found
-  inside_bank n = omega (arith, entry_in_bank n)
+  -- where there is an entry, it is one of the bank's
+  pub entry_in_bank : {i : ℕ} → entry ≡ Some i → (j : ℕ) × (mine ≡ Some j) × (i ≡ c * k + j) × (j < k)
+  entry_in_bank e =
+      let among_mine = unshift k c mine e in
+      (among_mine.0, among_mine.1, among_mine.2, inside_bank among_mine.0 among_mine.1)
 
   -- ---- what is left
 
-  pub estimate-in : estimate ≡ t.estimate
-  estimate-in = estimate_is ∙ ap (λ (u : Tracked). u.estimate) told
+  pub estimate-in : estimate_at entry counts ≡ t.estimate
+  estimate-in = estimate_shift k c mine inside_bank counts counts_fit ∙ ap (λ (u : Tracked). u.estimate) told
 
-  pub spill_in : spill_after estimate spill ≡ t.spill
-  spill_in = ap (λ (e : ℕ). spill_after e spill) estimate_is ∙ ap (λ (u : Tracked). u.spill) told
+  pub spill_in : spill_after entry spill ≡ t.spill
+  spill_in = spill_shift k c mine spill ∙ ap (λ (u : Tracked). u.spill) told
 
-  -- a table's entry of the bank gets x
-  shift : (table : List ℕ) → c * k + k ≤ length table → (x : ℕ)
-      → table_after entry estimate x table ≡ with_portion k c table (table_after i estimate x (portion k c table))
-  unfolding entry_found table_after
-  shift table fits x =
-      elim (split (eqb estimate 0)) [
-        | inl z ↦ rw z (sym (portion_own k c table fits))
-        | inr n ↦ rw n (sym (set-portion k c table fits i x (inside_bank (eqb-false estimate 0 n))))
-      ]
+  pub rows_in : table_after entry p rows ≡ with_portion k c rows t.rows
+  rows_in = shift k c mine inside_bank rows rows_fit p ∙ ap (λ (u : Tracked). with_portion k c rows u.rows) told
 
-  pub rows_in : table_after entry estimate p rows ≡ with_portion k c rows t.rows
-  rows_in =
-      shift rows rows_fit p
-      ∙ ap (λ (e : ℕ). with_portion k c rows (table_after i e p (portion k c rows))) estimate_is
-      ∙ ap (λ (u : Tracked). with_portion k c rows u.rows) told
-
-  pub counts_in : table_after entry estimate estimate counts ≡ with_portion k c counts t.counts
+  pub counts_in : table_after entry (estimate_at entry counts) counts ≡ with_portion k c counts t.counts
   counts_in =
-      shift counts counts_fit estimate
-      ∙ ap (λ (e : ℕ). with_portion k c counts (table_after i e e (portion k c counts))) estimate_is
+      shift k c mine inside_bank counts counts_fit (estimate_at entry counts)
+      ∙ ap (λ (e : ℕ). with_portion k c counts (table_after mine e (portion k c counts))) (estimate_shift k c mine inside_bank counts counts_fit)
       ∙ ap (λ (u : Tracked). with_portion k c counts u.counts) told
 
   -- ---- told by what the two searches of the bank's entries answer
 
   module _ (x : ℕ) (found : x ≡ index_of p (portion k c rows)) where
-    pub entry_named : x < k → c * k + x ≡ entry
-    unfolding entry_found entry_of
+    pub entry_named : x < k → entry ≡ Some (c * k + x)
+    unfolding entry_of
     entry_named h = rw (← found, lt-ltb x (length (portion k c rows)) (omega (arith, rows_long)))
 
-    pub entry_free : (y : ℕ) → y ≡ index_of spill (portion k c counts) → k ≤ x → c * k + y ≡ entry
-    unfolding entry_found entry_of
-    entry_free y e h = rw (← found, le-ltb x (length (portion k c rows)) (omega (arith, rows_long)), e)
+    module _ (y : ℕ) (free : y ≡ index_of spill (portion k c counts)) (h : k ≤ x) where
+      pub entry_free : y < k → entry ≡ Some (c * k + y)
+      unfolding entry_of
+      entry_free b =
+          rw (← found, le-ltb x (length (portion k c rows)) (omega (arith, rows_long)), ← free, lt-ltb y (length (portion k c counts)) (omega (arith, counts_long)))
+
+      pub entry_none : k ≤ y → entry ≡ None
+      unfolding entry_of
+      entry_none b =
+          rw (← found, le-ltb x (length (portion k c rows)) (omega (arith, rows_long)), ← free, le-ltb y (length (portion k c counts)) (omega (arith, counts_long)))

@@ -11,6 +11,7 @@ use lib.Dec.{leb, eqb, leb-suc-suc}
 use lib.ListN.{length, get_or, set, drop, length-set, drop_of_length-le, get_or-eq_default}
 use lib.Seq.{drop-cons, get_or-set_same, get_or-set_other}
 use borrow.Author.Tests.{eq-eqb, ne_eqb, lt-ltb, le-ltb, le-leb, lt-leb}
+use Rattle.std.specs.Prelude.{Some}
 use Rattle.geometry.specs.Entry.{empty}
 use Rattle.basics.proofs.Cases.{split, lt?}
 use Rattle.scan.specs.Scan.{lowest, index_of}
@@ -122,19 +123,21 @@ module _ (a p : ℕ) (rows counts : List ℕ) (spill : ℕ) (long : length rows 
           | inr k ↦ rw (le-ltb m (length rows) k)
         ])
 
-    pub worn-before : is_due a after.estimate ≡ true
-        → worn a after.rows after.counts x ≡ worn a (set rows (entry_of p rows counts spill) empty) counts x
+    pub worn-before : is_due a after.estimate ≡ true → (i : ℕ) → entry_of p rows counts spill ≡ Some i
+        → worn a after.rows after.counts x ≡ worn a (set rows i empty) counts x
     unfolding track entry_of
     worn-before =
         let i : ℕ = index_of p rows in
         let j : ℕ = index_of spill counts in
         elim (lt? i (length rows)) [
-          | inl h ↦ rw (lt-ltb i (length rows) h) (λ d.
+          | inl h ↦ rw (lt-ltb i (length rows) h) (λ d at e.
               let differs : get_or rows i 0 ≢ x = λ e. other (sym e ∙ index_found p rows 0 h) in
-              beside i (suc (get_or counts i 0)) rows h (sym (index_set_other x rows i empty 0 named differs)) refl)
+              let same : i ≡ at = cc in
+              rw (← same) (beside i (suc (get_or counts i 0)) rows h (sym (index_set_other x rows i empty 0 named differs)) refl))
           | inr h ↦ rw (le-ltb i (length rows) h) (elim (lt? j (length counts)) [
-            | inl k ↦ rw (lt-ltb j (length counts) k) (λ d.
-                beside j (suc spill) (set rows j p) (omega arith) (index_set_either x rows j p empty other named) (length-set rows j p))
-            | inr k ↦ rw (le-ltb j (length counts) k) (λ d. absurd (false≢true d))
+            | inl k ↦ rw (lt-ltb j (length counts) k) (λ d at e.
+                let same : j ≡ at = cc in
+                rw (← same) (beside j (suc spill) (set rows j p) (omega arith) (index_set_either x rows j p empty other named) (length-set rows j p)))
+            | inr k ↦ rw (le-ltb j (length counts) k) (λ d at e. absurd (false≢true d))
           ])
         ]

@@ -7,6 +7,9 @@ use mathlib.Core.Logic.{inl, inr, ◌≢◌}
 use mathlib.Core.Bool.{Bool, true, false, ◌&&◌}
 use lib.Dec.{eqb, ltb}
 use borrow.Author.Tests.{lt-ltb, le-ltb, eq-eqb, eqb-true, ne_eqb}
+use Rattle.std.specs.Prelude.{Result, Ok, Err}
+use Rattle.refusals.specs.declared.Refusal.{Refusal}
+use Rattle.refusals.specs.Refusals.{refusal_number, numbered}
 use Rattle.geometry.specs.declared.Settings.{Settings}
 use Rattle.geometry.specs.declared.Ring.{Ring}
 use Rattle.basics.proofs.Cases.{split, lt?}
@@ -18,14 +21,14 @@ use Rattle.engine.specs.Ladder.{stops, ◌▹◌, destination_unsound, row_numbe
 use Rattle.engine.proofs.Rungs.{goes_by, goes_on, joined, applies}
 use Rattle.engine.proofs.Skipping.{skip_most, cut_short, cut_full}
 use Rattle.ladder.proofs.Stages.{ends, early_number}
-use Rattle.verdict.specs.declared.Verdict.{Verdict}
-use Rattle.verdict.specs.Verdicts.{stopped, sent, quarantine_number, quarantine_verdict}
+use Rattle.verdict.specs.declared.Destination.{Destination}
+use Rattle.verdict.specs.Verdicts.{sent, quarantine_number, quarantine_verdict}
 
 -- ---- 9, the destination's 7, and the move
 
 -- over: the slots that are skipped
 module _ (S : Settings) (ring : Ring) (tables : Tables) (over : ℕ) where
-  pub no_room : S.q ≤ ring.passed + over → stopped 9 ≡ quarantine_verdict S ring tables over
+  pub no_room : S.q ≤ ring.passed + over → Err 9 ≡ quarantine_verdict S ring tables over
   unfolding quarantine_verdict quarantine_number stops ◌▹◌
   no_room full = rw (lt-ltb S.q (ring.passed + suc over) (omega arith))
 
@@ -35,32 +38,36 @@ module _ (S : Settings) (ring : Ring) (tables : Tables) (over : ℕ) where
     fits : ltb S.q (ring.passed + suc over) ≡ false
     fits = le-ltb S.q (ring.passed + suc over) (omega arith)
 
-    pub unsound : b ≡ true → stopped 7 ≡ quarantine_verdict S ring tables over
+    pub unsound : b ≡ true → Err 7 ≡ quarantine_verdict S ring tables over
     unfolding quarantine_verdict quarantine_number stops ◌▹◌
     unsound f = rw (← target, fits, sym told ∙ f)
 
     -- held: the reverse entry of d
     pub sound : b ≡ false → {held : ℕ} → held ≡ reverse_in tables d
-        → sent d held (over + 1) ≡ quarantine_verdict S ring tables over
+        → Ok (sent d held (over + 1)) ≡ quarantine_verdict S ring tables over
     unfolding quarantine_verdict quarantine_number stops ◌▹◌
     sound f was = rw (← target, fits, sym told ∙ f, was, add-one)
 
-  -- what a verdict tells
-  module _ (v : Verdict) (is : v ≡ quarantine_verdict S ring tables over) where
-    pub verdict_stops : v.number ≡ quarantine_number S ring tables over
+  -- what a verdict tells: the number, or where the row goes
+  module _ {v : Result Destination Refusal} (is : numbered v ≡ quarantine_verdict S ring tables over) where
+    pub verdict_stops : {x : Refusal} → v ≡ Err x → refusal_number x ≡ quarantine_number S ring tables over
     unfolding quarantine_verdict
-    verdict_stops =
+    verdict_stops stopped =
+        let told = rw stopped at is in
         elim (split (eqb (quarantine_number S ring tables over) 0)) [
-          | inl z ↦ rw (is, z) (sym (eqb-true _ 0 z))
-          | inr z ↦ rw (is, z)
+          | inl z ↦ absurd (let e = rw z at told in cc)
+          | inr z ↦ let e = rw z at told in cc
         ]
 
-    pub verdict_sent : v.number ≡ 0 →
-        let d : ℕ = destination_from S ring.head over in v ≡ sent d (reverse_in tables d) (suc over)
+    pub verdict_sent : {d : Destination} → v ≡ Ok d → (quarantine_number S ring tables over ≡ 0) ×
+        let s : ℕ = destination_from S ring.head over in d ≡ sent s (reverse_in tables s) (suc over)
     unfolding quarantine_verdict
-    verdict_sent z =
-        let none : quarantine_number S ring tables over ≡ 0 = sym verdict_stops ∙ z in
-        is ∙ rw none
+    verdict_sent goes =
+        let told = rw goes at is in
+        elim (split (eqb (quarantine_number S ring tables over) 0)) [
+          | inl z ↦ let e = rw z at told in (eqb-true _ 0 z, cc)
+          | inr z ↦ absurd (let e = rw z at told in cc)
+        ]
 
 -- ---- the search and the judgement: the code looks for skipped slots among those that are not gone by, the ladder among all
 

@@ -3,50 +3,51 @@
 #![tactic(auto)]
 
 ghost use Rattle.std.specs.Prelude.{◌≡◌, ◌<◌, ◌≤◌, eqb};
+ghost use Rattle.refusals.specs.Refusals.{numbered};
 ghost use Rattle.geometry.specs.Numbering.{slot};
 ghost use Rattle.tracking.specs.Track.{is_due};
 ghost use Rattle.engine.specs.State.{tables_in};
 ghost use Rattle.engine.specs.Round.{destination_from};
-ghost use Rattle.verdict.specs.Verdicts.{stopped, quarantine_verdict, Judgeable};
+ghost use Rattle.verdict.specs.Verdicts.{move_to, quarantine_verdict, Judgeable};
 ghost use Rattle.verdict.specs.Verdicts.{skipped_for, Decidable};
 
 use banks::Bank;
-use geometry::{ForwardEntry, PhysicalRow, ReverseEntry, Ring, Settings, Slot, VisibleRow};
+use engine::Move;
+use geometry::{PhysicalRow, Ring, Settings, Slot, VisibleRow};
+use refusals::Refusal;
 use tracker::Update;
 
 // What an access found before the bytes.
 #[derive(Clone, Copy)]
 pub struct Found {
     pub row: VisibleRow,
-    // the row's forward entry, and its place (step 1)
-    pub entry: ForwardEntry,
+    // the slot that the row's forward entry names, and the row's place (step 1)
+    pub entry: Option<Slot>,
     pub place: PhysicalRow,
     // the place's bank
     pub bank: Bank,
-    // what step 2 changes
-    pub update: Update,
+    // what step 2 changes, if anything
+    pub update: Option<Update>,
 }
 
-// What is decided of a row that is to be quarantined.
+// Where a row that is quarantined goes.
 #[derive(Clone, Copy)]
-pub struct Verdict {
-    // the number with which the access is refused, 0 where it is accepted
-    pub number: u32,
-    // where it is accepted: the destination, the reverse entry of that slot, and by how much `passed` rises
-    pub d: Slot,
-    pub held: ReverseEntry,
-    pub up: u32,
+pub struct Destination {
+    pub slot: Slot,
+    // the row that the slot holds
+    pub held: Option<VisibleRow>,
+    // by how much `passed` rises
+    pub rise: u32,
 }
 
-// Returns the verdict of a refusal.
-fn stop(number: u32) -> Verdict
-    ensures { result ≡ stopped number }
-{
-    Verdict {
-        number: number,
-        d: Slot(0),
-        held: ReverseEntry::EMPTY,
-        up: 0,
+impl From<Destination> for Move {
+    ghost from_gives = { λ d moved. moved ≡ move_to d };
+
+    fn from(d: Destination) -> Move {
+        match d.held {
+            None => Move::ToSlot(d.slot),
+            Some(row) => Move::OverSlot(d.slot, row),
+        }
     }
 }
 
@@ -59,7 +60,7 @@ pub fn is_full(s: Settings, acts: u32) -> bool
 
 // Returns the slot after so many slots from `head` on, round Q.
 #[tactic(auto, unfolding(engine::specs::Round::destination_from))]
-fn destination(s: Settings, head: u32, over: u32) -> Slot
+fn slot_from(s: Settings, head: u32, over: u32) -> Slot
     requires { (head < s.q) × (over < s.q) × (s.q ≤ 5500) }
     ensures { result ≡ slot (destination_from s head over) }
 {
@@ -69,41 +70,48 @@ fn destination(s: Settings, head: u32, over: u32) -> Slot
 // Judges 9 and the destination's 7 for a row to be quarantined where the head skips so many slots, and returns where it
 // goes where neither applies.
 #[tactic(auto, using(crate::proofs::Judged::judged), unfolding(engine::specs::Round::destination_from))]
-pub fn judge(s: Settings, ring: Ring, over: u32, forward: &[u16], reverse: &[u16]) -> Verdict
-    requires { Judgeable s ring over forward.now reverse.now }
-    ensures { result ≡ quarantine_verdict s ring (tables_in forward reverse) over }
+pub fn judge(
+    s: Settings,
+    ring: Ring,
+    over: u32,
+    forward: &[u16],
+    reverse: &[u16],
+) -> Result<Destination, Refusal>
+    requires { Judgeable s ring over }
+    ensures { numbered result ≡ quarantine_verdict s ring (tables_in forward reverse) over }
 {
     if s.q <= ring.passed + over {
-        return stop(engine::QUARANTINE);
+        return Err(Refusal::Quarantine);
     }
-    let d = destination(s, ring.head, over);
+    let d = slot_from(s, ring.head, over);
     if ladder::destination_unsound(s, d, forward, reverse) {
-        return stop(engine::POINTERS);
+        return Err(Refusal::Pointers);
     }
-    Verdict {
-        number: 0,
-        d: d,
+    Ok(Destination {
+        slot: d,
         held: ladder::reverse_of(reverse, d),
-        up: over + 1,
-    }
+        rise: over + 1,
+    })
 }
 
-// Decides of the row that was found where it is to be quarantined: its destination is searched, and then judged.
+// Decides of a row that is to be quarantined: its destination is searched, and then judged. entry: what the row's forward entry
+// names; changed: the entry that step 2 changes.
+#[tactic(auto, using(crate::proofs::Judged::over_in, crate::proofs::Judged::verdict_of_all))]
 pub fn decide(
     s: Settings,
     ring: Ring,
-    f: Found,
+    entry: Option<Slot>,
+    changed: usize,
     forward: &[u16],
     reverse: &[u16],
     rows: &[u16],
     counts: &[u32],
-) -> Verdict
-    requires { Decidable s ring f forward.now reverse.now rows.now counts.now }
-    ensures { let over = skipped_for s ring f rows.now counts.now in
-        result ≡ quarantine_verdict s ring (tables_in forward reverse) over }
+) -> Result<Destination, Refusal>
+    requires { Decidable s ring changed rows.now counts.now }
+    ensures { let over = skipped_for s ring entry changed rows.now counts.now in
+        numbered result ≡ quarantine_verdict s ring (tables_in forward reverse) over }
 {
-    let entry = f.entry;
-    let over = seek::skipped(s, ring, entry, f.update.entry, rows, counts);
+    let over = seek::skipped(s, ring, entry, changed, rows, counts);
     judge(s, ring, over, forward, reverse)
 }
 

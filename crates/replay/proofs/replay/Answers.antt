@@ -1,6 +1,8 @@
--- An empty trace, then the file's form and what it says.
-use Rattle.std.proofs.Common.{arith, length, sym, ◌∙◌}
-use Rattle.trace_file.proofs.Sections.{form-within}
+-- An empty trace, then what the file says.
+use native.Mathlib.Nat.{le_refl}
+use Rattle.std.proofs.Common.{arith, sym, ◌∙◌}
+use Rattle.trace_file.specs.Form.{most_numbers}
+use Rattle.trace_file.proofs.Sections.{steps_within}
 use Rattle.replay.proofs.Judging.{page_short, page_blank, page_long}
 use Rattle.replay.proofs.replay.Goals as goal
 
@@ -11,16 +13,32 @@ pub returns-then-is_empty_trace-clause-printed : goal.returns-then-is_empty_trac
 returns-then-is_empty_trace-clause-printed c =
     page_blank c.args.text.now c.if-page-lt-PAGE.false (sym c.is_empty_trace.ensures ∙ c.if-is_empty_trace.true)
 
-pub play_form-requires : goal.play_form-requires
-play_form-requires c =
-    let numbers = c.number_buffer-numbers in (
-      rw c.parse-form.ensures.form (form-within (length numbers.result) c.args.text.now),
-      omega arith,
-      c.if-page-lt-PAGE.false,
-    )
-
-pub returns-clause-printed : goal.returns-clause-printed
-returns-clause-printed c =
+pub returns-in-None-clause-printed : goal.returns-in-None-clause-printed
+returns-in-None-clause-printed c =
     let filled = sym c.is_empty_trace.ensures ∙ c.if-is_empty_trace.false in
-    c.play_form.ensures.printed
-    ∙ page_long c.args.text.now c.if-page-lt-PAGE.false filled (omega arith) c.parse-form.ensures.said
+    c.put_refused.ensures.printed
+    ∙ page_long c.args.text.now c.if-page-lt-PAGE.false filled (le_refl most_numbers) c.in-None.ensures.said
+
+-- the places of the steps are within the list
+pub offset_bounds-numbers-trace : goal.offset_bounds-numbers-trace
+offset_bounds-numbers-trace c = let w = steps_within most_numbers c.args.text.now c.in-Some.ensures.form in omega (arith, w.0, w.1, w.2)
+
+pub slice_bounds-play-count : goal.slice_bounds-play-count
+slice_bounds-play-count c = let w = steps_within most_numbers c.args.text.now c.in-Some.ensures.form in omega (arith, w.0, w.1, w.2)
+
+pub slice_bounds-play-start : goal.slice_bounds-play-start
+slice_bounds-play-start c = let w = steps_within most_numbers c.args.text.now c.in-Some.ensures.form in omega (arith, w.0, w.1, w.2)
+
+pub slice_bounds-play-end : goal.slice_bounds-play-end
+slice_bounds-play-end c = let w = steps_within most_numbers c.args.text.now c.in-Some.ensures.form in omega (arith, w.0, w.1, w.2)
+
+pub play-requires : goal.play-requires
+play-requires c =
+    let within = steps_within most_numbers c.args.text.now c.in-Some.ensures.form in
+    omega (arith, within.1, within.2, c.if-page-lt-PAGE.false)
+
+pub returns-in-Some-clause-printed : goal.returns-in-Some-clause-printed
+returns-in-Some-clause-printed c =
+    let filled = sym c.is_empty_trace.ensures ∙ c.if-is_empty_trace.false in
+    c.play.ensures.printed
+    ∙ page_long c.args.text.now c.if-page-lt-PAGE.false filled (le_refl most_numbers) c.in-Some.ensures.said

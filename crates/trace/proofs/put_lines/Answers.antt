@@ -3,7 +3,7 @@ use Rattle.std.proofs.Common.{take}
 use Rattle.replay.proofs.Judging.{page_wide}
 use Rattle.trace.proofs.put_lines.Goals as goal
 
-pub returns-in-Read-clause-printed : goal.returns-in-Read-clause-printed
-returns-in-Read-clause-printed g c =
-    let wide = page_wide (take c.in-Read.count c.args.text.now) c.requires.1 in
+pub returns-in-Ok-clause-printed : goal.returns-in-Ok-clause-printed
+returns-in-Ok-clause-printed g c =
+    let wide = page_wide (take c.in-Ok.count c.args.text.now) c.requires.1 in
     cc

@@ -15,19 +15,19 @@ returns-then-text-gt-MOST_BYTES c =
     let p = too_long a.text.now (length a.numbers.now) wide c.if-text-gt-MOST_BYTES.true in
     record { form = p.0; said = p.1 }
 
-pub returns-in-Unreadable : goal.returns-in-Unreadable
-returns-in-Unreadable c =
+pub returns-in_err-count : goal.returns-in_err-count
+returns-in_err-count c =
     let a = c.args in
     let wide = c.if-numbers-lt-MOST_NUMBERS.false in
     let short = c.if-text-gt-MOST_BYTES.false in
-    let p = none_read a.text.now (length a.numbers.now) wide short c.in-Unreadable.ensures.numbers in
-    record { form = p.0; said = p.1 }
+    let p = none_read a.text.now (length a.numbers.now) wide short c.in_err-count.ensures.numbers in
+    rw c.from_residual.ensures (record { form = p.0; said = p.1 })
 
-pub returns-in-Count : goal.returns-in-Count
-returns-in-Count c =
+pub returns : goal.returns
+returns c =
     let a = c.args in
-    let list = c.read_numbers-found.new.list in
-    let read = c.in-Count in
+    let list = c.read_numbers.new.list in
+    let read = c.in_ok-count in
     let wide = c.if-numbers-lt-MOST_NUMBERS.false in
     let short = c.if-text-gt-MOST_BYTES.false in
     let fits : read.count ≤ length list = omega (arith, read.ensures.within) in

@@ -1,5 +1,4 @@
 -- What was printed, and the lines that are left, are the whole.
-use Rattle.std.proofs.Common.{length, ◌-◌}
 use Rattle.engine.specs.State.{state_of}
 use Rattle.trace_steps.proofs.Running.{Running}
 use Rattle.trace_steps.proofs.run.Given as goal
@@ -9,6 +8,3 @@ invariant-loop-i l =
     let b = l.initial in
     let start = state_of b.store b.forward b.reverse b.rows b.counts b.last in
     Running l.s start l.steps (state_of l.store l.forward l.reverse l.rows l.counts l.last) l.page l.at l.i
-
-abbrev pub decreases-loop-i : goal.decreases-loop-i
-decreases-loop-i l = length l.steps - l.i

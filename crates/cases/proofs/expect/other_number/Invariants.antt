@@ -1,6 +1,0 @@
--- `cases::expect::other_number` ends: what is left of the numbers falls. Assumes nothing.
-use Rattle.std.proofs.Common.{◌-◌}
-use Rattle.cases.proofs.expect.other_number.Given as goal
-
-abbrev pub decreases-loop-i : goal.decreases-loop-i
-decreases-loop-i l = l.count - l.i

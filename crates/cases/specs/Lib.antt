@@ -1,2 +1,0 @@
--- The definitions of `cases`.
-pub mod Sized
