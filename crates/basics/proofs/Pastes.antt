@@ -4,11 +4,11 @@
 use Prim.Native.Nat.{ℕ, ◌+◌, ◌-◌, ◌≤◌, ◌<◌}
 use mathlib.Core.Path.{◌≡◌, sym, ap, ◌∙◌}
 use mathlib.Core.Logic.{◌⊎◌, inl, inr}
-use mathlib.Core.List.{List, ◌++◌, append_assoc}
+use mathlib.Core.List.{List, ◌++◌, append_assoc, append-nil}
 use native.Mathlib.Omega.{arith}
-use native.Mathlib.Nat.{add_assoc, add-sub_of_le}
-use lib.ListN.{length, get_or, take, drop, length-drop, take-append-drop, get_or-append}
-use lib.Seq.{paste, length_paste_head, length-take-le, get_or-take, get_or-drop, get_or-append-add, take-take, take-add, drop-drop, drop-append-le}
+use native.Mathlib.Nat.{add_assoc, zero-add, add-sub_of_le}
+use lib.ListN.{length, get_or, take, drop, length-drop, take-append-drop, drop_of_length-le, get_or-append}
+use lib.Seq.{paste, length_paste_head, take-paste, drop-paste, length-take-le, get_or-take, get_or-drop, get_or-append-add, take-take, take-length, take-add, drop-drop, drop-append-le}
 use borrow.Rule.Slice.PartMut.{mid_of, put_mid}
 
 -- the first n elements of s, pasted into d from index `at` on
@@ -38,6 +38,27 @@ module _ (d : List ℕ) (at : ℕ) (s : List ℕ) (n : ℕ) (fits : at + n ≤ l
       (rw (length_through, e) at (get_or-append-add (take at d ++ take n s) (drop (at + n) d) j 0))
       ∙ get_or-drop (at + n) d j 0
       ∙ ap (λ (k : ℕ). get_or d k 0) e
+
+-- only the first n elements of s count
+pub paste_alike : (d : List ℕ) (at : ℕ) (s t : List ℕ) (n : ℕ) → take n s ≡ take n t → paste d at s n ≡ paste d at t n
+paste_alike d at s t n e = ap (λ (m : List ℕ). take at d ++ m ++ drop (at + n) d) e
+
+-- behind the first i elements of s, the next k
+pub paste_further : (d : List ℕ) (at : ℕ) (s : List ℕ) (i k : ℕ) → at + i ≤ length d → i ≤ length s → paste (paste d at s i) (at + i) (drop i s) k ≡ paste d at s (i + k)
+paste_further d at s i k fits enough =
+    let l = paste d at s i in
+    let before : take (at + i) l ≡ take at d ++ take i s = take-paste d at s i (omega arith) enough in
+    let behind : drop (at + i + k) l ≡ drop (at + (i + k)) d =
+    sym (drop-drop k (at + i) l) ∙ ap (drop k) (drop-paste d at s i (omega arith) enough) ∙ drop-drop k (at + i) d
+    ∙ ap (λ (m : ℕ). drop m d) (add_assoc at i k)
+    in
+    rw (before, behind)
+    (ap (λ (m : List ℕ). m ++ drop (at + (i + k)) d)
+    (append_assoc (take at d) (take i s) (take k (drop i s)) ∙ ap (λ (m : List ℕ). take at d ++ m) (sym (take-add i k s))))
+
+-- all of d is written
+pub paste_over : (d s : List ℕ) → length d ≡ length s → paste d 0 s (length s) ≡ s
+paste_over d s h = simp (zero-add, drop_of_length-le d {i = length s} (omega arith), append-nil, take-length)
 
 -- the first k elements from the m-th on, and the others
 drop_through : (m k : ℕ) (xs : List ℕ) → m ≤ k → k ≤ length xs → drop m (take k xs) ++ drop k xs ≡ drop m xs
