@@ -37,7 +37,7 @@ use Rattle.engine.specs.Steps.{place, moves, skipped}
 use Rattle.engine.specs.Ladder.{row_unsound, row_number, tick_number, control_number, access_number}
 use Rattle.engine.proofs.Rungs.{goes_on, passes}
 use Rattle.engine.proofs.Facts.{row_facts, place_below}
-use Rattle.seek.proofs.Before.{skipped-before}
+use Rattle.seek.proofs.Before.{skipped-before-at}
 use Rattle.ladder.proofs.Stages.{Checked, checked, ends, early_number}
 use Rattle.verdict.specs.declared.Found.{Found}
 use Rattle.verdict.specs.declared.Destination.{Destination}
@@ -276,7 +276,7 @@ module _ {S : Settings} {σ : State} {a : Asked} {f : Found} (K : Sought S σ a 
             let X = (fits P).lengths in
             let own : forward_entry_of f.entry ≡ forward_of σ a.row =
             ap (λ (x : Found). forward_entry_of x.entry) K.found ∙ forward_of_named (forward_of σ a.row) in
-            rw own (skipped-before S σ a.row R.b_low X.rows X.counts (row-holds P).0 R.n_high R.q_high goes changed.0 (fits P).steady.head_in)
+            rw own (skipped-before-at S σ a.row R.b_low X.rows X.counts (row-holds P).0 R.n_high R.q_high goes changed.0 (fits P).steady.head_in)
 
         module _ (v : Result Destination Refusal)
             (decided : numbered v ≡ quarantine_verdict S ring σ.tables (skipped_for S ring f.entry u.entry σ.rows σ.counts)) where

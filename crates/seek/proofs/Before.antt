@@ -1,7 +1,7 @@
 -- What the search finds before step 2 is what the definition says after it. Assumes nothing.
 use Prim.Native.Nat.{ℕ, ◌+◌, ◌*◌, ◌<◌, ◌≤◌}
 use native.Mathlib.Omega.{arith}
-use mathlib.Core.Path.{◌≡◌, refl, sym, ◌∙◌}
+use mathlib.Core.Path.{◌≡◌, sym}
 use mathlib.Core.Logic.{inl, inr, ◌≢◌}
 use mathlib.Core.Bool.{Bool, true}
 use mathlib.Core.List.{List}
@@ -18,10 +18,11 @@ use Rattle.basics.proofs.Portions.{portion_fits, portion-set, portion-set_other}
 use Rattle.banks.proofs.Banks.{bank_in}
 use Rattle.tracking.specs.Worn.{worn}
 use Rattle.tracking.specs.Entry.{entry_of, entry_found}
+use Rattle.tracking.proofs.Due.{due_found}
 use Rattle.tracking.proofs.Banks.{entry_in_bank}
-use Rattle.tracking.proofs.Worn.{worn-before}
+use Rattle.tracking.proofs.Worn.{worn-before-at}
 use Rattle.engine.specs.State.{State, Tracker, tracker_at, forward_of}
-use Rattle.engine.specs.Steps.{place, tracked, counted, moves, skips, skipped}
+use Rattle.engine.specs.Steps.{place, counted, moves, skips, skipped}
 use Rattle.engine.proofs.Skipping.{skip_same}
 use Rattle.engine.proofs.Trackers.{entries_alike, rows_same, counts_same, rows_other, counts_other}
 use Rattle.seek.specs.Seeking.{worn_before, skips_before, skipped_before}
@@ -42,7 +43,7 @@ module _ (S : Settings) (σ : State) (r : ℕ) (some : 1 ≤ S.b) (rows_long : l
   fits : (x : ℕ) (table : List ℕ) → length table ≡ S.b * S.k → bank_of S x * S.k + S.k ≤ length table
   fits x table long = portion_fits S.k S.b (bank_of S x) (length table) long (bank_in S x some)
 
-  -- the entry that step 2 changes, of the entries of all banks; and among the bank's
+  -- with the entry given that step 2 changes: of the entries of all banks, and among the bank's
   module _ {changed : ℕ} (found : entry_found S.k c p σ.rows σ.counts t.spill ≡ Some changed) where
     abbrev in_bank : (j : ℕ) × (entry_of p t.rows t.counts t.spill ≡ Some j) × (changed ≡ c * S.k + j) × (j < S.k)
     in_bank = entry_in_bank S.k c σ.rows σ.counts (fits p σ.rows rows_long) (fits p σ.counts counts_long) p t.spill found
@@ -65,7 +66,7 @@ module _ (S : Settings) (σ : State) (r : ℕ) (some : 1 ≤ S.b) (rows_long : l
           in_bank.2,
           portion-set S.k c σ.rows (fits p σ.rows rows_long) entry empty in_bank.3,
         )
-        (sym (worn-before S.a p t.rows t.counts t.spill (entries_alike S σ r some rows_long counts_long)
+        (sym (worn-before-at S.a p t.rows t.counts t.spill (entries_alike S σ r some rows_long counts_long)
         x other named due entry in_bank.1))
 
     worn_other : (x : ℕ) → bank_of S x ≢ c → worn_before S changed σ.rows σ.counts x ≡ worn_after x
@@ -96,8 +97,16 @@ module _ (S : Settings) (σ : State) (r : ℕ) (some : 1 ≤ S.b) (rows_long : l
           ])
         ]
 
-    pub skipped-before : σ.control.head < S.q
+    pub skipped-before-at : σ.control.head < S.q
         → skipped_before S σ.control.head (forward_of σ r) changed σ.rows σ.counts ≡ skipped S σ r
-    skipped-before head_in =
+    skipped-before-at head_in =
         skip_same (skips_before S (forward_of σ r) changed σ.rows σ.counts) (skips S σ r) S.q S.q σ.control.head
         head_in skips_there
+
+  -- an access that calls for a move has one
+  pub skipped-before : σ.control.head < S.q
+      → (changed : ℕ) × (entry_found S.k c p σ.rows σ.counts t.spill ≡ Some changed)
+      × (skipped_before S σ.control.head (forward_of σ r) changed σ.rows σ.counts ≡ skipped S σ r)
+  skipped-before head_in =
+      let there = due_found S.a S.k c p σ.rows σ.counts t.spill due in
+      (there.0, there.1, skipped-before-at there.1 head_in)

@@ -2,7 +2,7 @@
 use Prim.Native.Nat.{ℕ, ◌<◌}
 use native.Mathlib.Omega.{arith}
 use mathlib.Core.Path.{◌≡◌, refl, sym, ap, ◌∙◌}
-use mathlib.Core.Logic.{inl, inr}
+use mathlib.Core.Logic.{inl, inr, ◌≢◌}
 use mathlib.Core.List.{List}
 use lib.ListN.{length, set, length-set}
 use lib.Seq.{set-get_or}
@@ -27,6 +27,11 @@ followed entry p rows counts spill =
 table_after_long : (entry : Option ℕ) (x : ℕ) (table : List ℕ) → length (table_after entry x table) ≡ length table
 table_after_long None x table = refl
 table_after_long (Some i) x table = length-set table i _
+
+-- where there is an estimate, there is an entry
+pub estimate_there : (entry : Option ℕ) (counts : List ℕ) → estimate_at entry counts ≢ 0 → (i : ℕ) × (entry ≡ Some i)
+estimate_there None counts some = absurd (some refl)
+estimate_there (Some i) counts some = (i, refl)
 
 module _ (p : ℕ) (rows counts : List ℕ) (spill : ℕ) where
   pub follow_entry : followed (entry_of p rows counts spill) p rows counts spill ≡ track p rows counts spill

@@ -20,7 +20,7 @@ use Rattle.tracking.specs.Track.{Tracked, track, is_due}
 use Rattle.tracking.specs.Worn.{worn}
 use Rattle.tracking.specs.Entry.{entry_of}
 use Rattle.tracking.proofs.Sums.{get_d_any}
-use Rattle.tracking.proofs.Due.{due_least}
+use Rattle.tracking.proofs.Due.{due_least, due_entry}
 use Rattle.tracking.proofs.Tracking.{estimate_of}
 
 -- where `spill` is below the threshold, it follows from the estimate
@@ -123,10 +123,11 @@ module _ (a p : ℕ) (rows counts : List ℕ) (spill : ℕ) (long : length rows 
           | inr k ↦ rw (le-ltb m (length rows) k)
         ])
 
-    pub worn-before : is_due a after.estimate ≡ true → (i : ℕ) → entry_of p rows counts spill ≡ Some i
+    -- with that entry given
+    pub worn-before-at : is_due a after.estimate ≡ true → (i : ℕ) → entry_of p rows counts spill ≡ Some i
         → worn a after.rows after.counts x ≡ worn a (set rows i empty) counts x
     unfolding track entry_of
-    worn-before =
+    worn-before-at =
         let i : ℕ = index_of p rows in
         let j : ℕ = index_of spill counts in
         elim (lt? i (length rows)) [
@@ -141,3 +142,10 @@ module _ (a p : ℕ) (rows counts : List ℕ) (spill : ℕ) (long : length rows 
             | inr k ↦ rw (le-ltb j (length counts) k) (λ d at e. absurd (false≢true d))
           ])
         ]
+
+    -- an access that calls for a move has one
+    pub worn-before : is_due a after.estimate ≡ true
+        → (i : ℕ) × (entry_of p rows counts spill ≡ Some i) × (worn a after.rows after.counts x ≡ worn a (set rows i empty) counts x)
+    worn-before due =
+        let there = due_entry a p rows counts spill due in
+        (there.0, there.1, worn-before-at due there.0 there.1)
