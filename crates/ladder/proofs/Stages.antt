@@ -3,18 +3,19 @@ use Prim.Native.Nat.{ℕ, zero, suc, ◌+◌, ◌-◌, ◌*◌, ◌<◌, ◌≤�
 use native.Mathlib.Nat.{mul-le-mul_right}
 use native.Mathlib.Omega.{arith}
 use mathlib.Core.Path.{◌≡◌, refl, sym, ap, ◌∙◌}
-use mathlib.Core.Logic.{◌≢◌}
-use mathlib.Core.Bool.{Bool, false, ◌||◌, or_assoc}
+use mathlib.Core.Logic.{inl, inr, ◌≢◌}
+use mathlib.Core.Bool.{Bool, true, false, ◌||◌, or_assoc}
 use mathlib.Core.List.{List}
 use lib.Dec.{ltb}
 use lib.ListN.{get_or, take, drop}
-use borrow.Author.Tests.{le-ltb, not-false}
+use borrow.Author.Tests.{lt-ltb, le-ltb, lt-leb, not-false}
 use Rattle.std.specs.List.{range_with_len, list_any}
 use Rattle.geometry.specs.declared.Settings.{Settings}
 use Rattle.geometry.specs.declared.Control.{Control}
 use Rattle.geometry.specs.declared.Lengths.{Lengths}
 use Rattle.basics.specs.Ranges.{some_below}
 use Rattle.basics.proofs.Below.{below_first, same_below}
+use Rattle.basics.proofs.Cases.{lt?}
 use Rattle.basics.specs.Portions.{portion}
 use Rattle.basics.proofs.Portions.{portion-lent}
 use Rattle.conditions.specs.Conditions.{lengths_hold}
@@ -23,12 +24,41 @@ use Rattle.scan.specs.Scan.{some}
 use Rattle.scan.proofs.Scans.{some_none, counts_below}
 use Rattle.banks.specs.Banks.{most_banks}
 use Rattle.engine.specs.declared.Asked.{Asked}
-use Rattle.engine.specs.State.{State, lengths_of, tracker_of, ring_of}
-use Rattle.engine.specs.Ladder.{◌▹◌, ring_unsound, tracker_unsound, bank_unsound, trackers_unsound, control_unsound}
-use Rattle.engine.specs.Ladder.{fit_number, row_number, tick_number}
-use Rattle.engine.proofs.Rungs.{pass, unmet, halts}
+use Rattle.engine.specs.State.{Tables, State, lengths_of, tracker_of, ring_of}
+use Rattle.engine.specs.Ladder.{stops, ◌▹◌, ring_unsound, tracker_unsound, bank_unsound, trackers_unsound, control_unsound}
+use Rattle.engine.specs.Ladder.{fit_number, control_number, row_unsound, row_number, tick_number}
+use Rattle.engine.proofs.Rungs.{pass, unmet, goes_by, halts, goes_on}
 use Rattle.engine.proofs.Facts.{settings_facts, Steady, steady, tick_facts}
 use Rattle.ladder.specs.Stages.{first_unsound, others_unsound}
+
+-- ---- a stage gives the number x: the ladder ends there, or goes on to the next stage, which gives y
+
+pub ends : {x first : ℕ} (next : ℕ) → x ≡ first → x ≢ 0 → x ≡ first ▹ next
+ends next e n = e ∙ sym (halts next (λ z. n (e ∙ z)))
+
+pub continues : {x first y next : ℕ} → x ≡ first → x ≡ 0 → y ≡ next → y ≡ first ▹ next
+continues {next = next} e z f = f ∙ sym (goes_on next (sym e ∙ z))
+
+-- ---- the condition of 6, for a write
+
+pub past_end : (w column count : ℕ) → w < column → true ≡ ltb w (column + count)
+past_end w column count h = sym (lt-ltb w (column + count) (omega arith))
+
+pub within_rest : (w column count : ℕ) → column ≤ w → ltb (w - column) count ≡ ltb w (column + count)
+within_rest w column count h =
+    elim (lt? (w - column) count) [
+      | inl k ↦ lt-ltb (w - column) count k ∙ sym (lt-ltb w (column + count) (omega arith))
+      | inr k ↦ le-ltb (w - column) count k ∙ sym (le-ltb w (column + count) (omega arith))
+    ]
+
+-- ---- past 5 and 6; b: whether 7 applies, as the code has it
+
+pub row_goes : (S : Settings) (tables : Tables) (a : Asked) → a.row < S.n → a.off ≡ false
+    → {b : Bool} → b ≡ row_unsound S tables a.row → stops b 7 ≡ row_number S tables a
+unfolding row_number
+row_goes S tables a row_in span_in told =
+    continues (sym (goes_by 5 (lt-leb S.n a.row row_in))) refl
+    (continues (sym (goes_by 6 span_in)) refl (ap (λ (b : Bool). stops b 7) told))
 
 -- ---- 1 to 4: past 1 to 3, 4 in two parts
 
@@ -91,6 +121,23 @@ control_parts S control counts some =
     ∙ ap (λ (n : ℕ). tracker_unsound S spill acts (take S.k (drop n counts)) || others) none in
     ap (λ (x : Bool). ring || x) banks ∙ sym (or_assoc ring (tracker_unsound S spill acts (take S.k counts)) others)
 
+-- x: the number of 1 to 3, as the code has it
+module _ (S : Settings) (lengths : Lengths) (control : Control) (counts : List ℕ) {x : ℕ} (e : x ≡ fit_number S lengths) where
+  pub tick-stops : x ≢ 0 → x ≡ control_number S lengths control counts
+  unfolding control_number
+  tick-stops n = ends _ e n
+
+  -- f, o: what the two tests of 4 answer
+  pub tick_goes : x ≡ 0 → {f o : Bool} → f ≡ first_unsound S (ring_of control) (get_or control.spill 0 0) (get_or control.acts 0 0) counts
+      → o ≡ others_unsound S control.spill control.acts counts → stops (f || o) 4 ≡ control_number S lengths control counts
+  unfolding control_number
+  tick_goes z {f} {o} ef eo =
+      let some : 1 ≤ S.b = (fit_counts S lengths (sym z ∙ e)).0 in
+      let first : Bool = first_unsound S (ring_of control) (get_or control.spill 0 0) (get_or control.acts 0 0) counts in
+      continues e z
+      (ap (λ (b : Bool). stops b 4)
+      (ap (λ (b : Bool). b || o) ef ∙ ap (λ (b : Bool). first || b) eo ∙ sym (control_parts S control counts some)))
+
 -- ---- past 1 to 4, as the code needs it
 
 pub record Checked (S : Settings) (σ : State) : Type 0 where
@@ -121,10 +168,6 @@ checked S σ z =
     }
 
 -- ---- 1 to 7 of a call
-
--- a stage gives the number x: the ladder ends there
-pub ends : {x first : ℕ} (next : ℕ) → x ≡ first → x ≢ 0 → x ≡ first ▹ next
-ends next e n = e ∙ sym (halts next (λ z. n (e ∙ z)))
 
 -- the first of 1 to 7
 abbrev pub early_number : Settings → State → Asked → ℕ

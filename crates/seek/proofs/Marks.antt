@@ -4,11 +4,11 @@ use native.Mathlib.Nat.{not-suc-le-zero}
 use native.Mathlib.Omega.{arith}
 use mathlib.Core.Path.{◌≡◌, refl, sym, ap, ◌∙◌, subst}
 use mathlib.Core.Logic.{inl, inr, ◌≢◌}
-use mathlib.Core.Bool.{Bool, false}
+use mathlib.Core.Bool.{Bool, false, ◌||◌}
 use mathlib.Core.List.{List}
-use lib.Dec.{ltb, leb}
+use lib.Dec.{ltb, leb, eqb}
 use lib.ListN.{length, get_or, set, take, drop, replicate, length-set, length-replicate, get_or-replicate}
-use lib.Seq.{length-take-le, get_or-take, get_or-set_same, get_or-set_other}
+use lib.Seq.{set_out, length-take-le, get_or-take, get_or-set_same, get_or-set_other}
 use borrow.Author.Tests.{eq-eqb, ne_eqb, lt-ltb, le-ltb}
 use Rattle.geometry.specs.declared.Settings.{Settings}
 use Rattle.geometry.specs.Numbering.{slot_row}
@@ -19,20 +19,22 @@ use Rattle.basics.proofs.Portions.{portion-cut}
 use Rattle.banks.proofs.Banks.{bank_in}
 use Rattle.tracking.specs.Worn.{worn}
 use Rattle.tracking.proofs.Worn.{worn_here, worn_past, worn_none}
-use Rattle.seek.specs.Seeking.{worn_before, Seekable, marked_by, MarkedIn, Marked}
+use Rattle.engine.specs.Round.{skipped_of}
+use Rattle.engine.proofs.Skipping.{skip_same}
+use Rattle.seek.specs.Seeking.{worn_before, skips_before, Seekable, marked_by, MarkedIn, Marked}
 use Rattle.seek.proofs.OfBank.{rows_fit, counts_fit, others_fit}
 
 -- ---- one entry of bank c
 
 module _ (S : Settings) (c name : ℕ) (is : Bool) (marks : List Bool) where
   -- it names a home, a slot of the bank, or a row of another bank
-  marked_home : name < S.n → marks ≡ marked_by S c name is marks
+  pub marked_home : name < S.n → marks ≡ marked_by S c name is marks
   marked_home h = rw (lt-ltb name S.n h)
 
-  marked_slot : S.n ≤ name → bank_of S name ≡ c → set marks (name - S.n) is ≡ marked_by S c name is marks
+  pub marked_slot : S.n ≤ name → bank_of S name ≡ c → set marks (name - S.n) is ≡ marked_by S c name is marks
   marked_slot h e = rw (le-ltb name S.n h, eq-eqb (bank_of S name) c e)
 
-  marked_away : bank_of S name ≢ c → marks ≡ marked_by S c name is marks
+  pub marked_away : bank_of S name ≢ c → marks ≡ marked_by S c name is marks
   marked_away n = elim (split (ltb name S.n)) [ inl e ↦ rw e | inr e ↦ rw (e, ne_eqb (bank_of S name) c n) ]
 
   -- what holds of the marks whether it writes or not
@@ -46,6 +48,9 @@ module _ (S : Settings) (c name : ℕ) (is : Bool) (marks : List Bool) where
           | inr n ↦ subst P (marked_away n) kept
         ]
       ]
+
+  pub marked_past : length marks ≤ name - S.n → marks ≡ marked_by S c name is marks
+  marked_past past = marked_holds (λ m. marks ≡ m) refl (λ h. sym (set_out marks (name - S.n) is past))
 
   length_marked : length (marked_by S c name is marks) ≡ length marks
   length_marked = marked_holds (λ m. length m ≡ length marks) refl (λ h. length-set marks (name - S.n) is)
@@ -231,3 +236,12 @@ module _ {S : Settings} {changed : ℕ} {rows counts : List ℕ} (seekable : See
         enough = omega (arith, m.long, seekable.slots_few);
         told = λ s b. m.told s b (omega (arith, bank_in S (slot_row S s) seekable.some_bank));
       }
+
+-- the test by the marks skips the same slots (entry: the row's forward entry)
+pub skipped_marked : {S : Settings} {changed : ℕ} {rows counts : List ℕ} {marks : List Bool}
+    → Marked S changed rows counts marks → (entry most from : ℕ) → from < S.q
+    → skipped_of (λ s. eqb entry s || get_or marks s false) S.q most from
+    ≡ skipped_of (skips_before S entry changed rows counts) S.q most from
+skipped_marked {S} {changed} {rows} {counts} {marks} m entry most from b =
+    skip_same (λ s. eqb entry s || get_or marks s false) (skips_before S entry changed rows counts) S.q most from b
+    (λ s h. ap (λ (w : Bool). eqb entry s || w) (m.told s h))

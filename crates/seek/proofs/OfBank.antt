@@ -6,7 +6,8 @@ use mathlib.Core.Path.{◌≡◌, refl, sym, ap, ◌∙◌}
 use mathlib.Core.Bool.{false}
 use mathlib.Core.List.{List}
 use lib.Dec.{leb}
-use lib.ListN.{length, get_or, set, length-set}
+use lib.ListN.{length, get_or, set, take, length-set}
+use lib.Seq.{length-take-le}
 use Rattle.geometry.specs.declared.Settings.{Settings}
 use Rattle.geometry.specs.Entry.{empty}
 use Rattle.scan.specs.Scan.{index_of}
@@ -28,6 +29,10 @@ module _ {S : Settings} {changed : ℕ} {rows counts : List ℕ} (seekable : See
 
     pub others_fit : c * S.k + S.k ≤ length (set rows changed empty)
     others_fit = omega (arith, rows_fit, length-set rows changed empty)
+
+    -- the entries before the bank's end
+    pub cut_long : length (take (c * S.k + S.k) rows) ≡ c * S.k + S.k
+    cut_long = length-take-le (c * S.k + S.k) rows rows_fit
 
   -- the bank of a physical row is one of B
   pub bank_known : {c : ℕ} (x : ℕ) → c ≡ bank_of S x → c < S.b

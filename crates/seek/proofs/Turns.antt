@@ -1,7 +1,8 @@
 -- The loop looks at one slot after another, round Q, for any test of a slot. Assumes nothing.
 use Prim.Native.Nat.{ℕ, suc, ◌+◌, ◌-◌, ◌%◌, ◌<◌, ◌≤◌}
+use native.Mathlib.Nat.{zero-add, sub-zero}
 use native.Mathlib.Omega.{arith}
-use mathlib.Core.Path.{◌≡◌, refl, ap, ◌∙◌}
+use mathlib.Core.Path.{◌≡◌, refl, sym, ap, ◌∙◌}
 use mathlib.Core.Logic.{inl, inr}
 use mathlib.Core.Bool.{Bool, true, false, cond}
 use lib.Dec.{ltb}
@@ -13,6 +14,10 @@ use Rattle.engine.proofs.Skipping.{skip_on, skip_none, skip_most, cut_short}
 -- of `most` slots from `from` on, n were skipped, and slot `at` is next
 pub record Turned (skip : ℕ → Bool) (q most from at n : ℕ) : Type 0 where
   pub same : skipped_of skip q most from ≡ n + skipped_of skip q (most - n) at
+
+-- before the first turn
+pub turned_none : {skip : ℕ → Bool} {q most from : ℕ} → Turned skip q most from from 0
+turned_none = record { same = rw (sub-zero, zero-add) }
 
 module _ {skip : ℕ → Bool} {q most from at n : ℕ} (t : Turned skip q most from at n) where
   -- a slot that is skipped
@@ -30,11 +35,19 @@ module _ {skip : ℕ → Bool} {q most from at n : ℕ} (t : Turned skip q most 
   pub turned_all : n ≤ most → most ≤ n → most ≡ skipped_of skip q most from
   turned_all h l = omega (arith, t.same, skip_most skip q (most - n) at)
 
--- the first 16 slots decide, where one of them is not skipped
+-- the first slots decide, where one of them is not skipped (few: the lesser of all and of the first)
+pub first_tell : (skip : ℕ → Bool) (q most from first : ℕ) {few n : ℕ} → few ≡ cond (ltb most first) most first
+    → n ≡ skipped_of skip q few from → n < first → n ≡ skipped_of skip q most from
+first_tell skip q most from first {few} {n} e told =
+    elim (lt? most first) [
+      | inl h ↦ λ b. told ∙ ap (λ (k : ℕ). skipped_of skip q k from) (e ∙ rw (lt-ltb most first h))
+      | inr h ↦
+          let whole : n ≡ skipped_of skip q first from =
+          told ∙ ap (λ (k : ℕ). skipped_of skip q k from) (e ∙ rw (le-ltb most first h)) in
+          λ b. whole ∙ sym (cut_short skip q first most from h (rw whole at b))
+    ]
+
+-- the same of the first 16
 pub first_16 : (skip : ℕ → Bool) (q most from : ℕ) → skipped_of skip q (cond (ltb most 16) most 16) from < 16
     → skipped_of skip q most from ≡ skipped_of skip q (cond (ltb most 16) most 16) from
-first_16 skip q most from =
-    elim (lt? most 16) [
-      | inl h ↦ rw (lt-ltb most 16 h) (λ b. refl)
-      | inr h ↦ rw (le-ltb most 16 h) (cut_short skip q 16 most from h)
-    ]
+first_16 skip q most from b = sym (first_tell skip q most from 16 refl refl b)
