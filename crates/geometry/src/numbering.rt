@@ -42,7 +42,8 @@ impl Number for Slot {
     }
 
     fn number(self) -> u16 {
-        self.0
+        let Slot(slot) = self;
+        slot
     }
 }
 
@@ -56,7 +57,8 @@ impl Number for VisibleRow {
     }
 
     fn number(self) -> u16 {
-        self.0
+        let VisibleRow(row) = self;
+        row
     }
 }
 
