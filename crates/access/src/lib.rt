@@ -1,7 +1,7 @@
 // Read and write. Each answers for any settings, arguments and lent memory; where it refuses, nothing lent is written. The
 // control record comes by value, and what an accepted access changes in it is given back as numbers: the ring, and one bank
-// with its numbers; `record_after` puts them into the record. Both judge the access, then serve the bytes, then finish it:
-// they stay two, as their parameters and promises differ. The lent slices stay parameters, as the C functions take them.
+// with its numbers; `record_after` tells the record after any answer. Both judge the access, then serve the bytes, then finish
+// it: they stay two, as their parameters and promises differ. The lent slices stay parameters, as the C functions take them.
 #![tactic(auto)]
 
 ghost use Rattle.std.specs.Prelude.{◌≡◌, ◌<◌, Ok, IfOk};
@@ -198,10 +198,13 @@ pub fn write(
     Ok(finish(control, s, j, store, forward, reverse, rows, counts))
 }
 
-// Returns the control record after an accepted access, from the one before it and what the access gave back.
-pub fn record_after(control: Control, a: Accepted) -> Control
-    requires { a.bank.index < most_banks }
-    ensures { result ≡ with_bank control a.ring a.bank }
+// Returns the control record after an access, from the one before it and what the access answered: a refusal leaves it.
+pub fn record_after(control: Control, answer: Result<Accepted, Refusal>) -> Control
+    requires { IfOk answer (λ a. a.bank.index < most_banks) }
+    ensures { result ≡ control_after control answer }
 {
-    banks::with_bank(control, a.ring, a.bank)
+    match answer {
+        Ok(accepted) => banks::with_bank(control, accepted.ring, accepted.bank),
+        Err(_) => control,
+    }
 }

@@ -7,11 +7,18 @@ use mathlib.Core.List.{List}
 use lib.Dec.{eqb}
 use lib.ListN.{replicate}
 use borrow.Author.Tests.{eq-eqb, ne_eqb, eqb-true, eqb-false, clash}
+use Rattle.std.specs.Prelude.{Result, Ok, Err}
+use Rattle.std.specs.Result.{IsOkAnd, MatchResult}
 use Rattle.basics.proofs.Cases.{split}
+use Rattle.refusals.specs.declared.Refusal.{Refusal}
+use Rattle.refusals.specs.Refusals.{numbered}
+use Rattle.access.specs.declared.Accepted.{Accepted}
+use Rattle.access.specs.Answers.{reply_of}
 use Rattle.geometry.specs.declared.Settings.{Settings}
 use Rattle.geometry.specs.declared.Control.{Control}
 use Rattle.engine.specs.State.{State, state_of}
 use Rattle.engine.specs.Calls as calls
+use Rattle.engine.specs.declared.Served.{Served}
 use Rattle.figures.specs.declared.Outcome.{Outcome}
 use Rattle.figures.specs.Outcome.{outcome_of}
 use Rattle.figures.specs.Promises.{TickPromise, ReadPromise}
@@ -45,6 +52,14 @@ read_is x row e =
     ]
 
 -- ---- what a step shows
+
+-- what was served, of all that an access gives back
+pub served_of : {P : Accepted → Served → Type 0} (answer : Result Accepted Refusal) (served : Result Served Refusal)
+    → ((a : Accepted) (x : Served) → P a x → x ≡ a.served)
+    → MatchResult answer (λ a. IsOkAnd served (P a)) (λ e. served ≡ Err e) → numbered served ≡ reply_of answer
+served_of (Ok a) (Ok x) is p = ap (λ (y : Served). Ok y) (is a x p)
+served_of (Ok a) (Err x) is p = absurd p
+served_of (Err x) served is p = ap numbered p
 
 -- what an access shows
 abbrev shown : calls.Accessed → StepLine

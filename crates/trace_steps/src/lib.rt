@@ -81,15 +81,9 @@ fn make_step(
                 rows,
                 counts,
             );
-            match read {
-                Ok(accepted) => Stepped {
-                    line: Line::from(Outcome::from(Ok(accepted.served))),
-                    control: access::record_after(control, accepted),
-                },
-                Err(refusal) => Stepped {
-                    line: Line::from(Outcome::from(Err(refusal))),
-                    control,
-                },
+            Stepped {
+                line: Line::from(Outcome::from(read.map(|accepted| accepted.served))),
+                control: access::record_after(control, read),
             }
         }
     }
