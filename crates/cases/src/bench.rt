@@ -2,13 +2,12 @@
 ghost use Rattle.std.specs.Prelude.{◌<◌, IfOk};
 ghost use Rattle.banks.specs.Banks.{most_banks};
 
-use crate::memory::{MARK, Memory};
+use crate::memory::{MARK, Memory, ROOM, Room};
 use access::Accepted;
 use figures::{Outcome, Sum};
 use geometry::{Control, Settings};
 use refusals::Refusal;
 use sizing::{RefreshTimes, SizeTimes};
-use std::alloc::{AllocError, Global};
 
 // The five calls, in the order of `from`.
 #[derive(Clone, Copy, Debug, PartialEq, Eq, PartialOrd, Ord)]
@@ -128,13 +127,8 @@ fn numbered(memory: &mut Memory, done: Result<Control, Refusal>) -> Answer {
 fn served(memory: &mut Memory, done: Result<Accepted, Refusal>) -> Answer
     requires { IfOk done (λ accepted. accepted.bank.index < most_banks) }
 {
-    match done {
-        Ok(accepted) => {
-            memory.control = access::record_after(memory.control, accepted);
-            Answer::from(Outcome::from(Ok(accepted.served)))
-        }
-        Err(refusal) => Answer::from(Outcome::from(Err(refusal))),
-    }
+    memory.control = access::record_after(memory.control, done);
+    Answer::from(Outcome::from(done.map(|accepted| accepted.served)))
 }
 
 fn set_up(memory: &mut Memory) -> Answer {
@@ -195,7 +189,7 @@ fn write(memory: &mut Memory, row: u32, column: usize, bytes: &[u8]) -> Answer {
 }
 
 // An inspect, by both of its calls: what it answers, and the bytes that it shows.
-pub fn inspect(alloc: Global, memory: &Memory, row: u32) -> Result<(Answer, Vec<u8>), AllocError> {
+pub fn inspect(memory: &Memory, row: u32) -> (Answer, &[u8]) {
     let control = memory.control;
     let settings = memory.settings;
     let store = memory.store.part();
@@ -217,23 +211,24 @@ pub fn inspect(alloc: Global, memory: &Memory, row: u32) -> Result<(Answer, Vec<
         length: part.len() as u64,
         ..Answer::of_number(u64::from(number))
     };
-    Ok((answer, Vec::from_slice(alloc, part)?))
+    (answer, part)
 }
 
 // One of the five calls, made on a memory: what it answers, and the bytes that an inspect shows.
-pub fn make(
-    alloc: Global,
-    memory: &mut Memory,
-    call: Call<'_>,
-) -> Result<(Answer, Vec<u8>), AllocError> {
+pub fn make(memory: &mut Memory, call: Call<'_>) -> (Answer, Room<[u8; ROOM]>) {
+    let mut shown = Room::new([0; ROOM], 0);
     let answer = match call {
-        Call::Inspect { row } => return inspect(alloc, memory, row),
+        Call::Inspect { row } => {
+            let (answer, part) = inspect(memory, row);
+            shown.hold(part);
+            answer
+        }
         Call::SetUp => set_up(memory),
         Call::Tick => tick(memory),
         Call::Read { row } => read(memory, row),
         Call::Write { row, column, bytes } => write(memory, row, column, bytes),
     };
-    Ok((answer, Vec::new(alloc)))
+    (answer, shown)
 }
 
 // The test of 6 alone, for counts of bytes that no slice can have: of a read where there is no column.

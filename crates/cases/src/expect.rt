@@ -1,11 +1,10 @@
-// The last call: what it was made on, what it answered and what it left, and what an expectation of the script finds
-// there.
+// The last call: what it was made on and what it answered, and what an expectation of the script finds there and in the
+// memory that it left.
 use crate::bench;
 use crate::bench::{Answer, Call};
 use crate::fault::Fault;
-use crate::memory::{Memory, Part, ROOM, in_room};
+use crate::memory::{Memory, Part, ROOM, Room, in_room};
 use crate::script::{Expectation, MOST_NUMBERS, Numbers};
-use std::alloc::{AllocError, Global};
 use std::fmt;
 
 // A figure of an answer, or an element of a part, that is not as expected.
@@ -33,48 +32,101 @@ impl fmt::Display for Difference {
 // The name of the bytes that inspect shows.
 const SHOWN: &str = "part";
 
-#[derive(Drop)]
+// How many parts there are.
+const PARTS: usize = Part::ALL.len();
+
+#[derive(Clone, Copy)]
 pub struct Last {
     pub before: Memory,
-    pub after: Memory,
     pub answer: Answer,
     // the bytes that an inspect shows
-    shown: Vec<u8>,
+    shown: Room<[u8; ROOM]>,
     // how many an inspect shows where it is accepted
     length: u64,
-    // the parts of which a line has said what the call left there
-    said: Vec<Part>,
+    // by part, whether a line has said what the call left there
+    said: [bool; PARTS],
+}
+
+// A part of the memory that a call left is as expected: where it is not, the first element.
+fn changed(after: &Memory, expected: &Memory, part: Part) -> Option<Difference> {
+    let at = after.changed(expected, part)?;
+    Some(wrong(after, part, at, expected.element(part, at)))
+}
+
+fn wrong(after: &Memory, part: Part, at: usize, expected: u64) -> Difference {
+    Difference {
+        name: part.name(),
+        at,
+        expected,
+        answered: after.element(part, at),
+    }
+}
+
+// The memory is as expected, in every part.
+fn leaves(after: &Memory, expected: &Memory) -> Option<Difference> {
+    Part::ALL
+        .iter()
+        .find_map(|part| changed(after, expected, *part))
+}
+
+// The bytes of visible rows 0 to N - 1, as inspect shows them, are the first so many of the numbers.
+fn rows_are(after: &Memory, numbers: &Numbers, count: usize) -> Result<Option<Difference>, Fault> {
+    let settings = after.settings;
+    let w = in_room(u64::from(settings.w));
+    let mut from = 0usize;
+    for row in 0..settings.n.min(ROOM as u32) {
+        let (answer, shown) = bench::inspect(after, row);
+        let hidden = (0..w).find(|i| {
+            let byte = shown.get(*i).map_or(0, |byte| u64::from(*byte));
+            byte != numbers[from.saturating_add(*i) % MOST_NUMBERS]
+        });
+        let refused = if answer.number == 0 { None } else { Some(0) };
+        if let Some(i) = hidden.or(refused) {
+            let at = from.saturating_add(i);
+            if at < count {
+                return Ok(Some(Difference {
+                    name: SHOWN,
+                    at,
+                    expected: numbers[at % MOST_NUMBERS],
+                    answered: u64::from(row),
+                }));
+            }
+        }
+        from = from.saturating_add(w);
+    }
+    if from != count || settings.n as usize > ROOM {
+        return Err(Fault::Visible);
+    }
+    Ok(None)
 }
 
 impl Last {
-    // One of the five calls, made on a memory.
-    pub fn made(alloc: Global, before: Memory, call: Call<'_>) -> Result<Last, AllocError> {
-        let mut after = before.clone()?;
-        let (answer, shown) = bench::make(alloc, &mut after, call)?;
+    // One of the five calls, made on a memory, which then is as the call leaves it.
+    pub fn made(memory: &mut Memory, call: Call<'_>) -> Last {
+        let before = *memory;
+        let (answer, shown) = bench::make(memory, call);
         let length = match call {
             Call::Inspect { .. } => u64::from(before.settings.w),
             _ => 0,
         };
-        Ok(Last {
+        Last {
             before,
-            after,
             answer,
             shown,
             length,
-            said: Vec::new(alloc),
-        })
+            said: [false; PARTS],
+        }
     }
 
     // What is answered from the line alone, and leaves the memory as it is.
-    pub fn told(alloc: Global, memory: Memory, answer: Answer) -> Result<Last, AllocError> {
-        Ok(Last {
-            after: memory.clone()?,
-            before: memory,
+    pub fn told(memory: &Memory, answer: Answer) -> Last {
+        Last {
+            before: *memory,
             answer,
-            shown: Vec::new(alloc),
+            shown: Room::new([0; ROOM], 0),
             length: 0,
-            said: Vec::new(alloc),
-        })
+            said: [false; PARTS],
+        }
     }
 
     // The answer is this, whole.
@@ -111,64 +163,53 @@ impl Last {
         })
     }
 
-    // The memory is this, in every part.
-    fn leaves(&self, expected: &Memory) -> Option<Difference> {
-        Part::ALL
-            .iter()
-            .find_map(|part| self.changed(expected, *part))
-    }
-
-    // A part of the memory is as expected: where it is not, the first element.
-    fn changed(&self, expected: &Memory, part: Part) -> Option<Difference> {
-        let at = self.after.changed(expected, part)?;
-        Some(self.wrong(part, at, expected.element(part, at)))
-    }
-
-    fn wrong(&self, part: Part, at: usize, expected: u64) -> Difference {
-        Difference {
-            name: part.name(),
-            at,
-            expected,
-            answered: self.after.element(part, at),
-        }
-    }
-
     // The call answers this, and leaves this memory where it is accepted, else the memory that it was made on.
-    pub fn answers_and_leaves(&self, expected: Answer, left: &Memory) -> Option<Difference> {
+    pub fn answers_and_leaves(
+        &self,
+        after: &Memory,
+        expected: Answer,
+        left: &Memory,
+    ) -> Option<Difference> {
         let memory = if expected.number == 0 {
             left
         } else {
             &self.before
         };
-        self.is_answer(expected).or_else(|| self.leaves(memory))
+        self.is_answer(expected).or_else(|| leaves(after, memory))
     }
 
     // The call is refused. Beside the number the answer holds nothing, and the memory is as it was.
-    pub fn is_refused(&self, number: u64) -> Option<Difference> {
-        self.answers_and_leaves(Answer::of_number(number), &self.before)
+    pub fn is_refused(&self, after: &Memory, number: u64) -> Option<Difference> {
+        self.answers_and_leaves(after, Answer::of_number(number), &self.before)
     }
 
     // Each part of which no line has spoken is as it was before the call.
-    fn rest_is_kept(&self) -> Option<Difference> {
+    fn rest_is_kept(&self, after: &Memory) -> Option<Difference> {
         Part::ALL
             .iter()
-            .filter(|part| !self.said.contains(part))
-            .find_map(|part| self.changed(&self.before, *part))
+            .zip(&self.said)
+            .filter(|(_, said)| !**said)
+            .find_map(|(part, _)| changed(after, &self.before, *part))
     }
 
     // A part holds the values, and what lies behind it is as it was before the call.
-    fn part_is(&mut self, part: Part, values: &[u64]) -> Result<Option<Difference>, Fault> {
-        if values.len() != self.after.lent(part) {
+    fn part_is(
+        &mut self,
+        after: &Memory,
+        part: Part,
+        values: &[u64],
+    ) -> Result<Option<Difference>, Fault> {
+        if values.len() != after.lent(part) {
             return Err(Fault::Lent);
         }
-        self.said.push(part)?;
+        self.said[part as usize] = true;
         for (i, value) in values.iter().enumerate() {
-            if self.after.element(part, i) != *value {
-                return Ok(Some(self.wrong(part, i, *value)));
+            if after.element(part, i) != *value {
+                return Ok(Some(wrong(after, part, i, *value)));
             }
         }
-        let behind = self.after.difference(&self.before, part, values.len());
-        Ok(behind.map(|i| self.wrong(part, i, self.before.element(part, i))))
+        let behind = after.difference(&self.before, part, values.len());
+        Ok(behind.map(|i| wrong(after, part, i, self.before.element(part, i))))
     }
 
     // Inspect shows the values.
@@ -185,7 +226,7 @@ impl Last {
         let (at, (expected, answered)) = values
             .iter()
             .copied()
-            .zip(self.shown.iter().map(|byte| u64::from(*byte)))
+            .zip(self.shown.part().iter().map(|byte| u64::from(*byte)))
             .enumerate()
             .find(|(_, (expected, answered))| expected != answered)?;
         Some(Difference {
@@ -196,56 +237,20 @@ impl Last {
         })
     }
 
-    // The bytes of visible rows 0 to N - 1, as inspect shows them, are the first so many of the numbers.
-    fn rows_are(
-        &self,
-        alloc: Global,
-        numbers: &Numbers,
-        count: usize,
-    ) -> Result<Option<Difference>, Fault> {
-        let settings = self.after.settings;
-        let w = in_room(u64::from(settings.w));
-        let mut from = 0usize;
-        for row in 0..settings.n.min(ROOM as u32) {
-            let (answer, shown) = bench::inspect(alloc, &self.after, row)?;
-            let hidden = (0..w).find(|i| {
-                let byte = shown.get(*i).map_or(0, |byte| u64::from(*byte));
-                byte != numbers[from.saturating_add(*i) % MOST_NUMBERS]
-            });
-            let refused = if answer.number == 0 { None } else { Some(0) };
-            if let Some(i) = hidden.or(refused) {
-                let at = from.saturating_add(i);
-                if at < count {
-                    return Ok(Some(Difference {
-                        name: SHOWN,
-                        at,
-                        expected: numbers[at % MOST_NUMBERS],
-                        answered: u64::from(row),
-                    }));
-                }
-            }
-            from = from.saturating_add(w);
-        }
-        if from != count || settings.n as usize > ROOM {
-            return Err(Fault::Visible);
-        }
-        Ok(None)
-    }
-
-    // The first difference from an expectation; none is as expected.
+    // The first difference from an expectation, of the call or of the memory that it left; none is as expected.
     pub fn judge(
         &mut self,
-        alloc: Global,
+        after: &Memory,
         expected: Expectation<'_>,
     ) -> Result<Option<Difference>, Fault> {
         match expected {
             Expectation::Accepted => Ok(self.is_accepted()),
             Expectation::Answers(answer) => Ok(self.answers(answer)),
-            Expectation::Refused(number) => Ok(self.is_refused(number)),
-            Expectation::Is(part, values) => self.part_is(part, values),
+            Expectation::Refused(number) => Ok(self.is_refused(after, number)),
+            Expectation::Is(part, values) => self.part_is(after, part, values),
             Expectation::Shown(values) => Ok(self.shows(values)),
-            Expectation::Visible(numbers, count) => self.rows_are(alloc, numbers, count),
-            Expectation::RestKept => Ok(self.rest_is_kept()),
+            Expectation::Visible(numbers, count) => rows_are(after, numbers, count),
+            Expectation::RestKept => Ok(self.rest_is_kept(after)),
         }
     }
 }

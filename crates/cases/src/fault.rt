@@ -1,5 +1,4 @@
 // Why a line of the script is refused.
-use std::alloc::{AllocError, AllocFailed};
 use std::fmt;
 use std::num::TryFromIntError;
 
@@ -12,7 +11,6 @@ pub enum Fault {
     Lent,
     Visible,
     TooLong,
-    OutOfMemory,
 }
 
 impl fmt::Display for Fault {
@@ -25,20 +23,7 @@ impl fmt::Display for Fault {
             Fault::Lent => "another number of values than are lent",
             Fault::Visible => "another number of values than N rows have",
             Fault::TooLong => "the script is too long",
-            Fault::OutOfMemory => "out of memory",
         })
-    }
-}
-
-impl From<AllocError> for Fault {
-    fn from(_e: AllocError) -> Fault {
-        Fault::OutOfMemory
-    }
-}
-
-impl<T: Drop> From<AllocFailed<T>> for Fault {
-    fn from(_e: AllocFailed<T>) -> Fault {
-        Fault::OutOfMemory
     }
 }
 

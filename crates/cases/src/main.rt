@@ -2,13 +2,13 @@
 // beside this program, `stdin`, has the cases of documents 01 and 02, and says how a script is written.
 #![tactic(auto)]
 
+ghost use Rattle.std.specs.Prelude.{◌≤◌, length};
+
 use fault::Fault;
 use report::Report;
 use script::{Numbers, Sentence};
 use session::Session;
-use std::alloc::Global;
-use std::io;
-use std::io::{ErrorKind, Read};
+use std::io::Read;
 
 mod bench;
 mod expect;
@@ -22,14 +22,22 @@ mod session;
 // A script has at most so many bytes.
 const MOST: usize = 262144;
 
-// The script as far as it can be read, and no further than one byte more than it may have, by which a longer one is seen to
-// be longer.
-fn read_script(alloc: Global, input: impl Read + Drop) -> io::Result<Vec<u8>> {
-    let mut text = Vec::new(alloc);
-    match input.take(MOST as u64 + 1).read_to_end(&mut text) {
-        Err(e) if e.kind() == ErrorKind::OutOfMemory => Err(e),
-        _ => Ok(text),
+// The buffer for it has one byte more, so that a longer one is seen to be longer.
+const TEXT: usize = MOST + 1;
+
+// Reads until the buffer is full, the script ends or a read fails, and returns how many bytes stand in the buffer.
+fn read_script(mut input: impl Read + Drop, text: &mut [u8]) -> usize
+    ensures { result ≤ length text.new }
+{
+    let mut done: usize = 0;
+    // It counts bytes that came, and no index.
+    while done < text.len() {
+        match input.read(&mut text[done..]) {
+            Ok(0) | Err(_) => break,
+            Ok(count) => done += count,
+        }
     }
+    done
 }
 
 // A line of the script is done.
@@ -61,13 +69,12 @@ fn run<'a>(session: &mut Session<'a>, text: &'a [u8]) -> Result<(), Fault> {
     Ok(())
 }
 
-fn main(rt: HostRuntime) -> io::Result<()> {
-    let text = read_script(rt.alloc(), rt.stdin())?;
-    let mut session = Session::new(rt.alloc(), Report::new(rt.stdout()));
-    match run(&mut session, text.as_slice()) {
+fn main(rt: HostRuntime) {
+    let mut text = [0u8; TEXT];
+    let count = read_script(rt.stdin(), &mut text);
+    let mut session = Session::new(Report::new(rt.stdout()));
+    match run(&mut session, &text[..count]) {
         Ok(()) => session.report.end(),
-        Err(Fault::OutOfMemory) => return Err(ErrorKind::OutOfMemory.into()),
         Err(fault) => session.report.refuse(fault),
     }
-    Ok(())
 }

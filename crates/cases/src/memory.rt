@@ -1,7 +1,8 @@
 // What a caller lends, as one value: the settings, the control record, and the room of each part.
+ghost use Rattle.std.specs.Prelude.{◌≤◌};
+
 use crate::fault::Fault;
 use geometry::{Control, Settings};
-use std::alloc::{AllocError, Global};
 use std::num::TryFromIntError;
 
 // The room of a part, in elements.
@@ -65,29 +66,45 @@ impl Part {
     }
 }
 
-// Room for the elements of a part, of which the first are lent.
-#[derive(Clone, Debug, Drop)]
-pub struct Room<T> {
-    elements: Vec<T>,
+// Room for the elements of a part, an array A, of which the first are lent.
+#[derive(Clone, Copy, Debug)]
+pub struct Room<A> {
+    elements: A,
     pub lent: usize,
 }
 
-impl<T: Copy> Room<T> {
-    fn new(alloc: Global, value: T, lent: usize) -> Result<Room<T>, AllocError> {
-        let elements = vec![in alloc; value; ROOM]?;
-        Ok(Room { elements, lent })
+impl<A> Room<A> {
+    pub fn new(elements: A, lent: usize) -> Room<A> {
+        Room { elements, lent }
     }
 
+    // How many elements are lent, as far as there is room.
+    pub fn lent(&self) -> usize
+        ensures { result ≤ 256 }
+    {
+        self.lent.min(ROOM)
+    }
+}
+
+impl<T: Copy> Room<[T; ROOM]> {
     // What is lent.
     pub fn part(&self) -> &[T] {
-        let end = self.lent.min(self.elements.len());
-        &self.elements[..end]
+        &self.elements[..self.lent()]
     }
 
     // What is lent, to be written.
     pub fn part_mut(&mut self) -> &mut [T] {
-        let end = self.lent.min(self.elements.len());
-        &mut self.elements[..end]
+        let end = self.lent();
+        let elements = &mut self.elements;
+        &mut elements[..end]
+    }
+
+    // Holds these values, as far as there is room, and lends them.
+    pub fn hold(&mut self, values: &[T]) {
+        for (element, value) in self.elements.iter_mut().zip(values) {
+            *element = *value;
+        }
+        self.lent = values.len();
     }
 
     // Puts a value into element i.
@@ -114,56 +131,60 @@ fn put<T: TryFrom<u64, Error = TryFromIntError> + Drop>(
     Ok(())
 }
 
-#[derive(Clone, Drop)]
+#[derive(Clone, Copy)]
 pub struct Memory {
     pub settings: Settings,
     pub control: Control,
-    pub store: Room<u8>,
-    pub forward: Room<u16>,
-    pub reverse: Room<u16>,
-    pub rows: Room<u16>,
-    pub counts: Room<u32>,
-    pub buffer: Room<u8>,
+    pub store: Room<[u8; ROOM]>,
+    pub forward: Room<[u16; ROOM]>,
+    pub reverse: Room<[u16; ROOM]>,
+    pub rows: Room<[u16; ROOM]>,
+    pub counts: Room<[u32; ROOM]>,
+    pub buffer: Room<[u8; ROOM]>,
 }
 
 // A number of elements, or as many as there is room for.
-pub fn in_room(count: u64) -> usize {
-    usize::try_from(count).map_or(ROOM, |count| count.min(ROOM))
+pub fn in_room(count: u64) -> usize
+    ensures { result ≤ 256 }
+{
+    count.min(ROOM as u64) as usize
 }
 
 impl Memory {
     // A memory for the settings, as set-up leaves it. Each part is lent in its length, or as far as there is room. Byte
     // i of the store is i + 1, modulo 256, and the read buffer holds 200s.
-    pub fn new(alloc: Global, s: Settings) -> Result<Memory, AllocError> {
+    pub fn new(s: Settings) -> Memory {
         let homes = u64::from(s.n) * u64::from(s.w);
         let slots = u64::from(s.q) * u64::from(s.w);
         let entries = in_room(u64::from(s.k) * u64::from(s.b));
-        let mut store = Room::new(alloc, 0, in_room(homes.saturating_add(slots)))?;
-        for (byte, value) in store.elements.iter_mut().zip((1..=u8::MAX).chain(0..1)) {
+        let mut store = [0; ROOM];
+        for (byte, value) in store.iter_mut().zip((1..=u8::MAX).chain(0..1)) {
             *byte = value;
         }
-        Ok(Memory {
+        Memory {
             settings: s,
             control: geometry::NEW,
-            store,
-            forward: Room::new(alloc, MARK, in_room(u64::from(s.n)))?,
-            reverse: Room::new(alloc, MARK, in_room(u64::from(s.q)))?,
-            rows: Room::new(alloc, MARK, entries)?,
-            counts: Room::new(alloc, 0, entries)?,
-            buffer: Room::new(alloc, 200, in_room(u64::from(s.w)))?,
-        })
+            store: Room::new(store, in_room(homes.saturating_add(slots))),
+            forward: Room::new([MARK; ROOM], in_room(u64::from(s.n))),
+            reverse: Room::new([MARK; ROOM], in_room(u64::from(s.q))),
+            rows: Room::new([MARK; ROOM], entries),
+            counts: Room::new([0; ROOM], entries),
+            buffer: Room::new([200; ROOM], in_room(u64::from(s.w))),
+        }
     }
 
     // How many elements of a part are lent.
-    pub fn lent(&self, part: Part) -> usize {
+    pub fn lent(&self, part: Part) -> usize
+        ensures { result ≤ 256 }
+    {
         match part {
             Part::Control => 4,
-            Part::Store => self.store.lent,
-            Part::Forward => self.forward.lent,
-            Part::Reverse => self.reverse.lent,
-            Part::Rows => self.rows.lent,
-            Part::Counts => self.counts.lent,
-            Part::Buffer => self.buffer.lent,
+            Part::Store => self.store.lent(),
+            Part::Forward => self.forward.lent(),
+            Part::Reverse => self.reverse.lent(),
+            Part::Rows => self.rows.lent(),
+            Part::Counts => self.counts.lent(),
+            Part::Buffer => self.buffer.lent(),
             Part::Spill | Part::Acts => 16,
         }
     }
@@ -178,12 +199,12 @@ impl Memory {
     pub fn element(&self, part: Part, i: usize) -> u64 {
         match part {
             Part::Control => element_of(&self.fields(), i),
-            Part::Store => element_of(self.store.elements.as_slice(), i),
-            Part::Forward => element_of(self.forward.elements.as_slice(), i),
-            Part::Reverse => element_of(self.reverse.elements.as_slice(), i),
-            Part::Rows => element_of(self.rows.elements.as_slice(), i),
-            Part::Counts => element_of(self.counts.elements.as_slice(), i),
-            Part::Buffer => element_of(self.buffer.elements.as_slice(), i),
+            Part::Store => element_of(&self.store.elements, i),
+            Part::Forward => element_of(&self.forward.elements, i),
+            Part::Reverse => element_of(&self.reverse.elements, i),
+            Part::Rows => element_of(&self.rows.elements, i),
+            Part::Counts => element_of(&self.counts.elements, i),
+            Part::Buffer => element_of(&self.buffer.elements, i),
             Part::Spill => element_of(&self.control.spill, i),
             Part::Acts => element_of(&self.control.acts, i),
         }
@@ -202,12 +223,12 @@ impl Memory {
                 self.control.acts[0] = acts;
                 Ok(())
             }
-            Part::Store => put(self.store.elements.as_mut_slice(), values),
-            Part::Forward => put(self.forward.elements.as_mut_slice(), values),
-            Part::Reverse => put(self.reverse.elements.as_mut_slice(), values),
-            Part::Rows => put(self.rows.elements.as_mut_slice(), values),
-            Part::Counts => put(self.counts.elements.as_mut_slice(), values),
-            Part::Buffer => put(self.buffer.elements.as_mut_slice(), values),
+            Part::Store => put(&mut self.store.elements, values),
+            Part::Forward => put(&mut self.forward.elements, values),
+            Part::Reverse => put(&mut self.reverse.elements, values),
+            Part::Rows => put(&mut self.rows.elements, values),
+            Part::Counts => put(&mut self.counts.elements, values),
+            Part::Buffer => put(&mut self.buffer.elements, values),
             Part::Spill => put(&mut self.control.spill, values),
             Part::Acts => put(&mut self.control.acts, values),
         }

@@ -9,7 +9,6 @@ use crate::bench::{Answer, Call};
 use crate::memory::{MARK, Memory};
 use crate::session::Session;
 use geometry::Settings;
-use std::alloc::{AllocError, Global};
 
 // The defects, by the bits of their set: the lowest is the first.
 #[derive(Clone, Copy, Debug, PartialEq, Eq)]
@@ -90,9 +89,9 @@ impl Defects {
     }
 
     // The memory that has them.
-    fn memory(self, alloc: Global) -> Result<Memory, AllocError> {
+    fn memory(self) -> Memory {
         let settings = self.settings();
-        let mut memory = Memory::new(alloc, settings)?;
+        let mut memory = Memory::new(settings);
         // 3: the store is one byte short.
         if self.has(Defect::Length) {
             memory.store.lent = if self.has(Defect::Range) { 9 } else { 11 };
@@ -123,7 +122,7 @@ impl Defects {
         if self.has(Defect::Count) {
             track(&mut memory, 1, 2, 100);
         }
-        Ok(memory)
+        memory
     }
 }
 
@@ -178,65 +177,64 @@ const INSPECT: [Defect; 6] = [
 ];
 
 // Case: a set-up, which judges 1 to 3. Accepted, it leaves everything but the store new.
-fn set_up(session: &mut Session<'_>, defects: Defects, memory: &Memory) -> Result<(), AllocError> {
+fn set_up(session: &mut Session<'_>, defects: Defects, memory: &Memory) {
     let expected = defects.refusal(&SET_UP).unwrap_or(Answer::of_number(0));
-    let left = Memory::new(session.alloc, memory.settings)?;
-    session.judge_call(memory.clone()?, Call::SetUp, expected, &left)
+    let left = Memory::new(memory.settings);
+    session.judge_call(memory, Call::SetUp, expected, &left);
 }
 
 // Case: a tick, 'not set-up, sizing' being the calls of 4.
-fn tick(session: &mut Session<'_>, defects: Defects, memory: &Memory) -> Result<(), AllocError> {
+fn tick(session: &mut Session<'_>, defects: Defects, memory: &Memory) {
     let expected = defects.refusal(&TICK).unwrap_or(Answer::of_number(0));
-    let mut left = memory.clone()?;
+    let mut left = *memory;
     ticked(&mut left);
-    session.judge_call(memory.clone()?, Call::Tick, expected, &left)
+    session.judge_call(memory, Call::Tick, expected, &left);
 }
 
 // Case: an inspect, which judges 1 to 5 and the row's 7. Its part has W bytes.
-fn inspect(session: &mut Session<'_>, defects: Defects, memory: &Memory) -> Result<(), AllocError> {
+fn inspect(session: &mut Session<'_>, defects: Defects, memory: &Memory) {
     let expected = defects.refusal(&INSPECT).unwrap_or(Answer {
         length: 2,
         ..Answer::of_number(0)
     });
     let call = Call::Inspect { row: defects.row() };
-    session.judge_call(memory.clone()?, call, expected, memory)
+    session.judge_call(memory, call, expected, memory);
 }
 
 // Case: a read. 6: a buffer of 3 bytes.
-fn read(session: &mut Session<'_>, defects: Defects, memory: &Memory) -> Result<(), AllocError> {
+fn read(session: &mut Session<'_>, defects: Defects, memory: &Memory) {
     let expected = defects.refusal(&Defect::ALL).unwrap_or(MOVED);
-    let mut memory = memory.clone()?;
+    let mut memory = *memory;
     memory.buffer.lent = if defects.has(Defect::Span) { 3 } else { 2 };
-    let mut left = memory.clone()?;
+    let mut left = memory;
     moved(&mut left, 3);
     left.buffer.set(0, 3);
     left.buffer.set(1, 4);
     let call = Call::Read { row: defects.row() };
-    session.judge_call(memory, call, expected, &left)
+    session.judge_call(&memory, call, expected, &left);
 }
 
 // Case: a write of one byte, 99. 6: at column 2.
-fn write(session: &mut Session<'_>, defects: Defects, memory: &Memory) -> Result<(), AllocError> {
+fn write(session: &mut Session<'_>, defects: Defects, memory: &Memory) {
     let expected = defects.refusal(&Defect::ALL).unwrap_or(MOVED);
-    let mut left = memory.clone()?;
+    let mut left = *memory;
     moved(&mut left, 99);
     let call = Call::Write {
         row: defects.row(),
         column: if defects.has(Defect::Span) { 2 } else { 0 },
         bytes: &[99],
     };
-    session.judge_call(memory.clone()?, call, expected, &left)
+    session.judge_call(memory, call, expected, &left);
 }
 
 // Each set of the ten defects, as the bits of a number: 1024 sets × 5 calls = 5120 cases.
-pub fn run(session: &mut Session<'_>) -> Result<(), AllocError> {
+pub fn run(session: &mut Session<'_>) {
     for defects in (0..1024).map(Defects) {
-        let memory = defects.memory(session.alloc)?;
-        set_up(session, defects, &memory)?;
-        tick(session, defects, &memory)?;
-        inspect(session, defects, &memory)?;
-        read(session, defects, &memory)?;
-        write(session, defects, &memory)?;
+        let memory = defects.memory();
+        set_up(session, defects, &memory);
+        tick(session, defects, &memory);
+        inspect(session, defects, &memory);
+        read(session, defects, &memory);
+        write(session, defects, &memory);
     }
-    Ok(())
 }

@@ -11,7 +11,7 @@ struct Tally {
     wrong: u64,
 }
 
-#[derive(Drop)]
+#[derive(Clone, Copy)]
 pub struct Report<'a> {
     out: Stdout,
     // the line of the script, from 1

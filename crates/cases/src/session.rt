@@ -2,25 +2,26 @@
 use crate::bench::{Answer, Call, Kind};
 use crate::expect::Last;
 use crate::fault::Fault;
-use crate::memory::{Memory, Part, ROOM, in_room};
+use crate::memory::{Memory, Part, ROOM, Room, in_room};
 use crate::report::Report;
 use crate::script::{Expectation, Line};
 use crate::{bench, order};
 use geometry::Settings;
-use std::alloc::{AllocError, Global};
 
 // What the script has brought about so far.
-#[derive(Drop)]
+#[derive(Clone, Copy)]
 pub struct Session<'a> {
-    pub alloc: Global,
     pub report: Report<'a>,
-    // the memory as the lines before left it, once one has given settings
-    memory: Option<Memory>,
+    // the memory as the lines before left it
+    memory: Memory,
+    // whether a line has given it, by settings or by `undo`: before, lines neither lend to it nor call on it, but for
+    // `order` and the sums
+    given: bool,
     // the last call, where one was made on this memory
     last: Option<Last>,
 }
 
-// What stands in place of the memory before the first settings.
+// What stands in place of settings before the first.
 const NO_SETTINGS: Settings = Settings {
     n: 0,
     q: 0,
@@ -32,107 +33,88 @@ const NO_SETTINGS: Settings = Settings {
 };
 
 impl<'a> Session<'a> {
-    pub fn new(alloc: Global, report: Report<'a>) -> Session<'a> {
+    pub fn new(report: Report<'a>) -> Session<'a> {
         Session {
-            alloc,
             report,
-            memory: None,
+            memory: Memory::new(NO_SETTINGS),
+            given: false,
             last: None,
         }
     }
 
     // The memory is this, and no call was made on it.
     fn lend(&mut self, memory: Memory) {
-        self.memory = Some(memory);
+        self.memory = memory;
+        self.given = true;
         self.last = None;
     }
 
-    // The memory that settings gave.
-    fn memory(&self) -> Result<Memory, Fault> {
-        match &self.memory {
-            Some(memory) => Ok(memory.clone()?),
-            None => Err(Fault::NoSettings),
+    // The memory that a line has given.
+    fn memory(&mut self) -> Result<&mut Memory, Fault> {
+        if self.given {
+            Ok(&mut self.memory)
+        } else {
+            Err(Fault::NoSettings)
         }
-    }
-
-    // A call was made. What it left is the memory now, where settings were given.
-    fn called(&mut self, last: Last) -> Result<(), AllocError> {
-        if self.memory.is_some() {
-            self.memory = Some(last.after.clone()?);
-        }
-        self.last = Some(last);
-        Ok(())
     }
 
     // One of the five calls is made, on the memory.
     fn make(&mut self, call: Call<'_>) -> Result<(), Fault> {
-        let memory = self.memory()?;
-        let last = Last::made(self.alloc, memory, call)?;
-        self.called(last)?;
+        let last = Last::made(self.memory()?, call);
+        self.last = Some(last);
         Ok(())
     }
 
-    // Case: one of the five calls, made on a memory, answers this, and leaves this memory where it is accepted.
-    pub fn judge_call(
-        &mut self,
-        memory: Memory,
-        call: Call<'_>,
-        expected: Answer,
-        left: &Memory,
-    ) -> Result<(), AllocError> {
-        let last = Last::made(self.alloc, memory, call)?;
-        self.report.judge(last.answers_and_leaves(expected, left));
-        self.called(last)
+    // Case: one of the five calls, made on a memory, answers this, and leaves this memory where it is accepted. What it
+    // left is the memory now, of which a sum speaks also where no line has given one.
+    pub fn judge_call(&mut self, memory: &Memory, call: Call<'_>, expected: Answer, left: &Memory) {
+        self.memory = *memory;
+        let last = Last::made(&mut self.memory, call);
+        let difference = last.answers_and_leaves(&self.memory, expected, left);
+        self.report.judge(difference);
+        self.last = Some(last);
     }
 
     // A sum is answered. There may be no settings.
-    fn answer(&mut self, answer: Answer) -> Result<(), Fault> {
-        let memory = match &self.memory {
-            Some(memory) => memory.clone()?,
-            None => Memory::new(self.alloc, NO_SETTINGS)?,
-        };
-        let last = Last::told(self.alloc, memory, answer)?;
-        self.called(last)?;
-        Ok(())
+    fn answer(&mut self, answer: Answer) {
+        self.last = Some(Last::told(&self.memory, answer));
     }
 
     // A part and its values.
     fn put(&mut self, part: Part, values: &[u64]) -> Result<(), Fault> {
-        let mut memory = self.memory()?;
+        let memory = self.memory()?;
         if values.is_empty() || values.len() > ROOM {
             return Err(Fault::Values);
         }
         memory.put(part, values)?;
-        self.lend(memory);
+        self.last = None;
         Ok(())
     }
 
     // A read: the buffer has W bytes where the line has no other length.
     fn read(&mut self, row: u32, length: Option<u64>) -> Result<(), Fault> {
-        let mut memory = self.memory()?;
+        let memory = self.memory()?;
         memory.buffer.lent = in_room(length.unwrap_or(u64::from(memory.settings.w)));
-        self.memory = Some(memory);
         self.make(Call::Read { row })
     }
 
     // A write. How many bytes there are counts modulo 257, since there is room for 256.
     fn write(&mut self, row: u32, column: usize, values: &[u64]) -> Result<(), Fault> {
-        let count = values.len() % (ROOM + 1);
-        let mut bytes = Vec::new(self.alloc);
-        for value in values.iter().take(count) {
-            bytes.push((*value % 256) as u8)?;
+        let mut bytes = Room::new([0; ROOM], values.len() % (ROOM + 1));
+        for (byte, value) in bytes.part_mut().iter_mut().zip(values) {
+            *byte = (*value % 256) as u8;
         }
         self.make(Call::Write {
             row,
             column,
-            bytes: bytes.as_slice(),
+            bytes: bytes.part(),
         })
     }
 
     // `from`: each call from one on is accepted, or refused with a number. Each is made on the memory as it is, which stays
     // so.
     fn attempts(&mut self, first: Kind, number: u64, row: u32) -> Result<(), Fault> {
-        let memory = self.memory()?;
+        let memory = *self.memory()?;
         for kind in Kind::ALL.into_iter().filter(|kind| *kind >= first) {
             let call = match kind {
                 Kind::SetUp => Call::SetUp,
@@ -145,11 +127,12 @@ impl<'a> Session<'a> {
                     bytes: &[99],
                 },
             };
-            let last = Last::made(self.alloc, memory.clone()?, call)?;
+            let mut after = memory;
+            let last = Last::made(&mut after, call);
             self.report.judge(if number == 0 {
                 last.is_accepted()
             } else {
-                last.is_refused(number)
+                last.is_refused(&after, number)
             });
         }
         self.last = None;
@@ -160,8 +143,7 @@ impl<'a> Session<'a> {
     pub fn line(&mut self, line: Line<'_>) -> Result<(), Fault> {
         match line {
             Line::Settings(settings) => {
-                let memory = Memory::new(self.alloc, settings)?;
-                self.lend(memory);
+                self.lend(Memory::new(settings));
                 Ok(())
             }
             Line::Lend {
@@ -171,13 +153,13 @@ impl<'a> Session<'a> {
                 rows,
                 counts,
             } => {
-                let mut memory = self.memory()?;
+                let memory = self.memory()?;
                 memory.store.lent = store;
                 memory.forward.lent = forward;
                 memory.reverse.lent = reverse;
                 memory.rows.lent = rows;
                 memory.counts.lent = counts;
-                self.lend(memory);
+                self.last = None;
                 Ok(())
             }
             Line::Put(part, values) => self.put(part, values),
@@ -188,13 +170,20 @@ impl<'a> Session<'a> {
             Line::Write { row, column, bytes } => self.write(row, column, bytes),
             Line::Span { column, count } => {
                 let settings = self.memory()?.settings;
-                self.answer(bench::span(settings, column, count))
+                self.answer(bench::span(settings, column, count));
+                Ok(())
             }
-            Line::Size(times) => self.answer(bench::least_size(times)),
-            Line::Most(times) => self.answer(bench::most_activations(times)),
+            Line::Size(times) => {
+                self.answer(bench::least_size(times));
+                Ok(())
+            }
+            Line::Most(times) => {
+                self.answer(bench::most_activations(times));
+                Ok(())
+            }
             Line::From { first, number, row } => self.attempts(first, number, row),
             Line::Order => {
-                order::run(self)?;
+                order::run(self);
                 Ok(())
             }
             Line::Expect(expected) => self.expect(expected),
@@ -207,17 +196,18 @@ impl<'a> Session<'a> {
         let Some(last) = &mut self.last else {
             return Err(Fault::NoCall);
         };
-        let difference = last.judge(self.alloc, expected)?;
+        let difference = last.judge(&self.memory, expected)?;
         self.report.judge(difference);
         Ok(())
     }
 
     // The memory is again as before the last call.
     fn undo(&mut self) -> Result<(), Fault> {
-        let Some(last) = self.last.take() else {
+        let Some(last) = &self.last else {
             return Err(Fault::NoCall);
         };
-        self.lend(last.before);
+        let before = last.before;
+        self.lend(before);
         Ok(())
     }
 }
