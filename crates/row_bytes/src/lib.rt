@@ -11,6 +11,9 @@ ghost use Rattle.row_layout.specs.Bytes.{row_bytes, written, copied};
 use geometry::PhysicalRow;
 use std::ops::Range;
 
+// The size of a block: a count that the compiler knows, so that it makes moves of 16 bytes in a straight line of the loop.
+const BLOCK: usize = 256;
+
 // The places of a row's bytes within the store.
 fn row_range(w: usize, place: PhysicalRow) -> Range<usize>
     requires { place.0 * w + w < 2 ^ 64 }
@@ -36,15 +39,32 @@ pub fn read_row(store: &[u8], w: usize, place: PhysicalRow, buffer: &mut [u8])
     requires { (length buffer.old ≡ w) × (place.0 * w + w ≤ length store.now) }
     ensures { buffer.new ≡ row_bytes w store.now place.0 }
 {
-    buffer.copy_from_slice(row_part(store, w, place));
+    put(buffer, 0, row_part(store, w, place));
 }
 
-// Writes bytes into the part that is a row from a column on.
+// Writes bytes into the part that is a row from a column on, one by one.
+#[tactic(auto, using(std::proofs::lemmas::List::Edits::paste_more))]
+fn put_each(row: &mut [u8], column: usize, bytes: &[u8])
+    requires { column + length bytes.now ≤ length row.old }
+    ensures { row.new ≡ paste row.old column bytes.now (length bytes.now) }
+{
+    for (i, byte) in bytes.iter().enumerate() {
+        row[column + i] = *byte;
+    }
+}
+
+// Writes bytes into the part that is a row from a column on, block by block. The library's `copy_from_slice` would call the C
+// library's `memmove`, which nothing else here needs (`docs/DECISIONS-CODE.md`, 'Form of the copies').
+#[tactic(auto, using(crate::proofs::Blocks::block_more, crate::proofs::Blocks::rest_last))]
 fn put(row: &mut [u8], column: usize, bytes: &[u8])
     requires { column + length bytes.now ≤ length row.old }
     ensures { row.new ≡ paste row.old column bytes.now (length bytes.now) }
 {
-    row[column..column + bytes.len()].copy_from_slice(bytes);
+    let (blocks, rest) = bytes.as_chunks::<BLOCK>();
+    for (k, block) in blocks.iter().enumerate() {
+        put_each(row, column + k * BLOCK, block);
+    }
+    put_each(row, column + blocks.len() * BLOCK, rest);
 }
 
 // Writes bytes into a row from a column on: only the row's part of the store is lent on.
