@@ -3,13 +3,13 @@ use Prim.Native.Nat.{ℕ, suc, ◌+◌, ◌<◌, ◌≤◌}
 use native.Mathlib.Nat.{zero-add}
 use native.Mathlib.Numerals.{add-one}
 use native.Mathlib.Omega.{arith}
-use mathlib.Core.Path.{◌≡◌, sym, ◌∙◌, ap}
+use mathlib.Core.Path.{◌≡◌, refl, sym, ◌∙◌, ap}
 use mathlib.Core.Logic.{inl, inr}
 use mathlib.Core.Bool.{true, false, ◌||◌, and-false}
 use mathlib.Core.List.{List, [], ◌∷◌, append-nil}
 use lib.Dec.{leb}
-use lib.ListN.{length, take, drop, set, length-set, drop_of_length-le}
-use lib.Seq.{take-suc-set, append_snoc}
+use lib.ListN.{length, get_or, take, drop, set, length-set, drop_of_length-le}
+use lib.Seq.{drop-cons, take-suc-set, append_snoc}
 use borrow.Author.Tests.{le-leb, lt-leb, leb-false}
 use Rattle.std.specs.Prelude.{Option, None, Some}
 use Rattle.std.specs.Option.{unwrap_or}
@@ -100,6 +100,10 @@ module _ (list : List ℕ) (s : Scan) where
       pub byte-refused : is_digit b ≡ false → is_gap b ≡ false → outcome list s (b ∷ rest) ≡ None
       unfolding readable_from every
       byte-refused d g = not_readable (b ∷ rest) (rw (d, g))
+
+  -- the byte of the text at index i is the next
+  pub next_byte : (text : List ℕ) (i : ℕ) → i < length text → outcome list s (drop i text) ≡ outcome list s (get_or text i 0 ∷ drop (i + 1) text)
+  next_byte text i h = rw (add-one, drop-cons text i 0) refl
 
   -- ---- the end of the text
 

@@ -4,8 +4,8 @@ use native.Mathlib.Nat.{le_refl}
 use native.Mathlib.Omega.{arith}
 use mathlib.Core.Path.{◌≡◌, refl, ◌∙◌, ap, subst}
 use mathlib.Core.List.{List, ◌++◌, append_assoc}
-use lib.ListN.{length, take, length-append}
-use lib.Seq.{paste, take-paste, take-length}
+use lib.ListN.{length, take, drop, length-append, length-drop}
+use lib.Seq.{paste, take-paste, take-length, take_all}
 use Rattle.page.specs.Put.{Put}
 
 pub put_paste : (page : List ℕ) (at : ℕ) (bytes : List ℕ) → at + length bytes ≤ length page
@@ -29,3 +29,7 @@ put-put {page} {next} {last} {at} {mid} {end} {first} {second} p q =
 pub put_same : {page after : List ℕ} {at next : ℕ} {bytes other : List ℕ} → bytes ≡ other → Put page at bytes after next
     → Put page at other after next
 put_same {page} {after} {at} {next} e p = subst (λ (bs : List ℕ). Put page at bs after next) e p
+
+-- a part that reaches to the end
+pub part_rest : (xs : List ℕ) (i count : ℕ) → length xs ≤ i + count → take count (drop i xs) ≡ drop i xs
+part_rest xs i count h = take_all count (drop i xs) (omega (arith, h, length-drop i xs))

@@ -69,6 +69,6 @@ pub fn replay(text: &[u8], page: &mut [u8]) -> usize
     let mut numbers = [0u32; trace_file::MOST_NUMBERS];
     match trace_file::parse(text, &mut numbers) {
         None => put_refused(page),
-        Some(trace) => play(trace.settings, &numbers[trace.steps], page),
+        Some(trace) => play(trace.settings, &numbers[trace.steps()], page),
     }
 }

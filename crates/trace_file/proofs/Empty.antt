@@ -1,7 +1,7 @@
 -- An empty trace, in terms of the numbers of the file. Assumes nothing.
 use Prim.Native.Nat.{ℕ, ◌<◌, ◌≤◌}
 use native.Mathlib.Omega.{arith}
-use mathlib.Core.Path.{◌≡◌, refl, ap}
+use mathlib.Core.Path.{◌≡◌, refl, sym, ◌∙◌, ap}
 use mathlib.Core.Logic.{◌⊎◌, inl, inr}
 use mathlib.Core.Bool.{true, false, ◌&&◌}
 use mathlib.Core.List.{List}
@@ -11,8 +11,8 @@ use Rattle.basics.proofs.Tests.{and_right}
 use Rattle.number_text.specs.Numbers.{blank, numbers, readable}
 use Rattle.number_text.proofs.Blank.{blank_no_numbers}
 use Rattle.std.specs.Prelude.{None}
-use Rattle.trace_file.specs.Form.{steps_at, file_fits, trace_in, is_empty_trace}
-use Rattle.trace_file.proofs.Sections.{one_section, fewer_than_eight}
+use Rattle.trace_file.specs.Form.{steps_at, file_fits, form_in, trace_in, is_empty_trace}
+use Rattle.trace_file.proofs.Sections.{one_section, fewer_than_eight, said_same, text_says}
 
 module _ (text : List ℕ) where
   pub empty_no_numbers : is_empty_trace text ≡ true → length (numbers text) ≡ 0
@@ -24,10 +24,13 @@ module _ (text : List ℕ) where
   has-number h = elim (split (is_empty_trace text)) [ inl e ↦ absurd (omega (arith, empty_no_numbers e)) | inr e ↦ e ]
 
   -- no second section
-  pub few_numbers : (length (numbers text) < 8) ⊎ (length (numbers text) < steps_at (numbers text)) → trace_in text ≡ None
-  unfolding trace_in
-  few_numbers h =
+  few_refused : (length (numbers text) < 8) ⊎ (length (numbers text) < steps_at (numbers text)) → form_in text ≡ None
+  unfolding form_in
+  few_refused h =
       elim (split (file_fits text && readable text)) [
-        | inl e ↦ rw e (elim h [ inl k ↦ fewer_than_eight (numbers text) k | inr k ↦ one_section (numbers text) k ])
+        | inl e ↦ rw e (elim h [ inl k ↦ (fewer_than_eight (numbers text) k).0 | inr k ↦ (one_section (numbers text) k).0 ])
         | inr e ↦ rw e refl
       ]
+
+  pub few_numbers : (length (numbers text) < 8) ⊎ (length (numbers text) < steps_at (numbers text)) → trace_in text ≡ None
+  few_numbers h = sym (text_says text) ∙ said_same (numbers text) (few_refused h)

@@ -58,29 +58,28 @@ module _ (xs : List ℕ) where
   not_sectioned : (Sectioned xs → ⊥) → has_sections xs ≡ false
   not_sectioned n = elim (split (has_sections xs)) [ inl e ↦ absurd (n (sectioned e)) | inr e ↦ e ]
 
-  no_form : has_sections xs ≡ false → form_of xs ≡ None
-  no_form e = rw e refl
+  refused : (Sectioned xs → ⊥) → (form_of xs ≡ None) × (sections xs ≡ None)
+  refused n = rw (not_sectioned n) (refl, refl)
 
   -- neither six settings and a second count, nor seven
   pub other_form : (first_count xs ≡ 6 → 8 ≤ length xs → ⊥) → (first_count xs ≡ 7 → 9 ≤ length xs → ⊥) → form_of xs ≡ None
   other_form six seven =
-      no_form
-      (not_sectioned
+      (refused
       (λ s. elim (first_known (first_count xs) s.taken) [
         | inl e ↦ six e (omega (arith, s.whole))
         | inr e ↦ seven e (omega (arith, s.whole))
-      ]))
+      ])).0
 
   -- no second section: fewer numbers than the first count requires, or than any first count requires
-  pub one_section : length xs < steps_at xs → sections xs ≡ None
-  one_section h = rw (not_sectioned (λ s. omega (arith, s.whole))) refl
+  pub one_section : length xs < steps_at xs → (form_of xs ≡ None) × (sections xs ≡ None)
+  one_section h = refused (λ s. omega (arith, s.whole))
 
-  pub fewer_than_eight : length xs < 8 → sections xs ≡ None
-  fewer_than_eight h = rw (not_sectioned (λ s. omega (arith, s.whole, first-least (first_count xs) s.taken))) refl
+  pub fewer_than_eight : length xs < 8 → (form_of xs ≡ None) × (sections xs ≡ None)
+  fewer_than_eight h = refused (λ s. omega (arith, s.whole, first-least (first_count xs) s.taken))
 
   -- more numbers than the longest trace has
   too_many : most_numbers < length xs → form_of xs ≡ None
-  too_many h = no_form (not_sectioned (λ s. omega (arith, s.whole, s.few, first_most (first_count xs) s.taken)))
+  too_many h = (refused (λ s. omega (arith, s.whole, s.few, first_most (first_count xs) s.taken))).0
 
 -- the same test, of the numbers after the first k
 eqb_behind : (n k c : ℕ) → k ≤ n → eqb n (k + c) ≡ eqb (n - k) c
@@ -152,7 +151,7 @@ module _ (list : List ℕ) (count : ℕ) (room : count ≤ length list) where
       ∙ drop_at (take first list) part first (length-take-le first list (omega arith)) in
       sym (ap (take steps) cut ∙ take-take steps steps (drop first list) (le_refl steps))
 
-  said_in_list : recorded (form_of (take count list)) list ≡ sections (take count list)
+  pub said_in_list : recorded (form_of (take count list)) list ≡ sections (take count list)
   said_in_list =
       let xs = take count list in
       let trace : List ℕ → Option Recorded = λ steps. Some (record { settings = settings_of xs; steps = steps }) in
@@ -173,16 +172,20 @@ pub form-within : (room : ℕ) (text : List ℕ) → StepsWithin (form_within ro
 unfolding form_within form_in
 form-within room text =
     let xs = numbers text in
-    let places : Range ℕ = record { start = steps_at xs; end = steps_at xs + second_count xs } in
+    let trace : Trace = record { settings = settings_of xs; start = steps_at xs; end = steps_at xs + second_count xs } in
     within_if (leb most_numbers room) (form_in text)
     (λ wide. within_if (file_fits text && readable text) (form_of xs)
-    (λ read. within_if (has_sections xs) (Some (record { settings = settings_of xs; steps = places }))
+    (λ read. within_if (has_sections xs) (Some trace)
     (λ e. let s = sectioned xs e in (omega (arith, first_most (first_count xs) s.taken), omega arith, omega (arith, s.few)))))
 
 pub steps_within : (room : ℕ) (text : List ℕ) {form : Option Trace} → form ≡ form_within room text → StepsWithin form
 steps_within room text e = subst StepsWithin (sym e) (form-within room text)
 
 -- ---- a text, read into a list of `room` places
+
+-- two forms that are one say the same
+pub said_same : (list : List ℕ) {form other : Option Trace} → form ≡ other → recorded form list ≡ recorded other list
+said_same list e = ap (λ (f : Option Trace). recorded f list) e
 
 -- what a text's form says is what the text says
 module _ (text : List ℕ) where
@@ -192,16 +195,13 @@ module _ (text : List ℕ) where
       let all = take_all (length xs) xs (le_refl (length xs)) in
       subst (λ (ys : List ℕ). recorded (form_of ys) xs ≡ sections ys) all (said_in_list xs (length xs) (le_refl (length xs)))
 
+  pub text_says : recorded (form_in text) (numbers text) ≡ trace_in text
+  unfolding form_in trace_in
+  text_says = elim (split (file_fits text && readable text)) [ inl f ↦ rw f numbers_say | inr f ↦ rw f refl ]
+
   pub form_says : (room : ℕ) → recorded (form_within room text) (numbers text) ≡ trace_within room text
-  unfolding form_within form_in trace_within trace_in
-  form_says room =
-      elim (split (leb most_numbers room)) [
-        | inl wide ↦ elim (split (file_fits text && readable text)) [
-          | inl f ↦ rw (wide, f) numbers_say
-          | inr f ↦ rw (wide, f) refl
-        ]
-        | inr small ↦ rw small refl
-      ]
+  unfolding form_within trace_within
+  form_says room = elim (split (leb most_numbers room)) [ inl wide ↦ rw wide text_says | inr small ↦ rw small refl ]
 
 -- the text is refused, as `parse` promises it
 abbrev Refuses : ℕ → List ℕ → Type 0
@@ -209,7 +209,7 @@ Refuses room text = (None ≡ form_within room text) × (None ≡ trace_within r
 
 module _ (text : List ℕ) (room : ℕ) where
   refuses : form_within room text ≡ None → Refuses room text
-  refuses e = (sym e, ap (λ (f : Option Trace). recorded f (numbers text)) (sym e) ∙ form_says text room)
+  refuses e = (sym e, said_same (numbers text) (sym e) ∙ form_says text room)
 
   pub no_room : room < most_numbers → Refuses room text
   unfolding form_within
@@ -262,10 +262,10 @@ module _ (text : List ℕ) (room : ℕ) where
       some_read list count fits e f =
           let read = all_read (take count list) e in (
             f ∙ ap form_of read.0 ∙ read.1,
-            ap (λ (g : Option Trace). recorded g list) f
+            said_same list f
                 ∙ said_in_list list count fits
                 ∙ ap sections read.0
                 ∙ sym (numbers_say text)
-                ∙ ap (λ (g : Option Trace). recorded g (numbers text)) read.1
+                ∙ said_same (numbers text) read.1
                 ∙ form_says text room,
           )

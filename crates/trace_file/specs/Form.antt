@@ -4,7 +4,6 @@
 use Rattle.std.specs.Prelude.{ℕ, ◌+◌, ◌-◌, ◌≤◌, Bool, cond, ◌&&◌, ◌||◌, List, eqb, leb, length, get_or, take, drop}
 use Rattle.std.specs.Prelude.{Option, None, Some, IfSome}
 use Rattle.std.specs.Option.{option_map}
-use Rattle.std.specs.declared.ops.Range.{Range}
 use Rattle.geometry.specs.declared.Settings.{Settings}
 use Rattle.trace_file.specs.declared.Trace.{Trace}
 use Rattle.number_text.specs.Numbers.{blank, numbers, readable}
@@ -57,13 +56,13 @@ settings_of xs =
 -- what the numbers are: None where they are not in two sections, else the settings, and where the steps begin and end
 abbrev pub form_of : List ℕ → Option Trace
 form_of xs =
-    let places : Range ℕ = record { start = steps_at xs; end = steps_at xs + second_count xs } in
-    cond (has_sections xs) (Some (record { settings = settings_of xs; steps = places })) None
+    let trace : Trace = record { settings = settings_of xs; start = steps_at xs; end = steps_at xs + second_count xs } in
+    cond (has_sections xs) (Some trace) None
 
 -- what a form says, with the list in which the steps stand
 abbrev pub recorded : Option Trace → List ℕ → Option Recorded
 recorded form list =
-    let stand : Trace → List ℕ = λ trace. take (trace.steps.end - trace.steps.start) (drop trace.steps.start list) in
+    let stand : Trace → List ℕ = λ trace. take (trace.end - trace.start) (drop trace.start list) in
     option_map (λ trace. record { settings = trace.settings; steps = stand trace }) form
 
 -- what the numbers say; None where they are not in two sections
@@ -111,4 +110,4 @@ trace_within room text = cond (leb most_numbers room) (trace_in text) None
 abbrev pub StepsWithin : Option Trace → Type 0
 StepsWithin form =
     IfSome form
-    (λ trace. (trace.steps.start ≤ 9) × (trace.steps.start ≤ trace.steps.end) × (trace.steps.end - trace.steps.start ≤ 4096))
+    (λ trace. (trace.start ≤ 9) × (trace.start ≤ trace.end) × (trace.end - trace.start ≤ 4096))

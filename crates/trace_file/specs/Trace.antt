@@ -9,5 +9,5 @@ use Rattle.trace_file.specs.declared.Trace.{Trace}
 abbrev pub counted : Settings → ℕ → Range ℕ → Option Trace
 counted settings count places =
     cond (leb count 4096 && eqb (places.end - places.start) count)
-    (Some (record { settings = settings; steps = places }))
+    (Some (record { settings = settings; start = places.start; end = places.end }))
     None

@@ -10,11 +10,24 @@ use geometry::Settings;
 use std::ops::Range;
 
 // What a trace file says: its settings, and the places in the lent list where its steps stand. Places, and not a slice of the
-// list: the promise `said` on what stands in the list is proved where the result does not borrow from it.
-#[derive(Clone, Drop)]
+// list: the promise `said` on what stands in the list is proved where the result does not borrow from it. Two numbers, and not
+// a `Range`, which is not `Copy`.
+#[derive(Clone, Copy)]
 pub struct Trace {
     pub settings: Settings,
-    pub steps: Range<usize>,
+    // where the steps begin, and where they end
+    pub start: usize,
+    pub end: usize,
+}
+
+impl Trace {
+    // Returns the places of the steps.
+    pub fn steps(self) -> Range<usize>
+        ensures start { result.start ≡ self.start }
+        ensures end { result.end ≡ self.end }
+    {
+        self.start..self.end
+    }
 }
 
 // The longest trace file, in bytes.
@@ -31,11 +44,16 @@ fn with_steps(settings: Settings, count: u32, steps: Range<usize>) -> Option<Tra
     if !whole {
         return None;
     }
-    Some(Trace { settings, steps })
+    Some(Trace {
+        settings,
+        start: steps.start,
+        end: steps.end,
+    })
 }
 
 // The sections of a trace of these numbers. It has one bank where the first count is 6, and as many as the seventh setting says
 // where it is 7.
+#[tactic(auto, using(crate::proofs::Sections::six_form, crate::proofs::Sections::seven_form, crate::proofs::Sections::other_form))]
 fn sections_of(numbers: &[u32]) -> Option<Trace>
     ensures { result ≡ form_of numbers.now }
 {

@@ -1,6 +1,6 @@
 -- An empty trace, then what the file says.
 use native.Mathlib.Nat.{le_refl}
-use Rattle.std.proofs.Common.{arith, sym, ◌∙◌}
+use Rattle.std.proofs.Common.{arith, refl, sym, ◌∙◌}
 use Rattle.trace_file.specs.Form.{most_numbers}
 use Rattle.trace_file.proofs.Sections.{steps_within}
 use Rattle.replay.proofs.Judging.{page_short, page_blank, page_long}
@@ -20,8 +20,8 @@ returns-in-None-clause-printed c =
     ∙ page_long c.args.text.now c.if-page-lt-PAGE.false filled (le_refl most_numbers) c.in-None.ensures.said
 
 -- the places of the steps are within the list
-pub offset_bounds-numbers-trace : goal.offset_bounds-numbers-trace
-offset_bounds-numbers-trace c = let w = steps_within most_numbers c.args.text.now c.in-Some.ensures.form in omega (arith, w.0, w.1, w.2)
+pub offset_bounds-numbers-steps : goal.offset_bounds-numbers-steps
+offset_bounds-numbers-steps c = let w = steps_within most_numbers c.args.text.now c.in-Some.ensures.form in omega (arith, w.0, w.1, w.2)
 
 pub slice_bounds-play-count : goal.slice_bounds-play-count
 slice_bounds-play-count c = let w = steps_within most_numbers c.args.text.now c.in-Some.ensures.form in omega (arith, w.0, w.1, w.2)
@@ -41,4 +41,5 @@ pub returns-in-Some-clause-printed : goal.returns-in-Some-clause-printed
 returns-in-Some-clause-printed c =
     let filled = sym c.is_empty_trace.ensures ∙ c.if-is_empty_trace.false in
     c.play.ensures.printed
+    ∙ rw (c.steps.ensures.start, c.steps.ensures.end) refl
     ∙ page_long c.args.text.now c.if-page-lt-PAGE.false filled (le_refl most_numbers) c.in-Some.ensures.said
