@@ -1,8 +1,8 @@
 /* AQUA row quarantine engine, one rank: the calls for firmware in C.
  *
- * Link target/staticlib/librank.a, which bin/staticlib proves and writes. It is for x86-64 and needs memcpy, memmove and
+ * Link target/staticlib/librank.a, which bin/staticlib proves and writes. It is for x86-64 and needs memcpy and
  * memset of the C library. A read or a write needs at most 6,400 bytes of stack, its arguments and its return address
- * included, and every other call at most 768, where these three are those of glibc; this is measured (lab/c/stack.c)
+ * included, and every other call at most 768, where memcpy and memset are those of glibc; this is measured (lab/c/stack.c)
  * and not proved. Every call takes any argument and answers by a number, 0 where it is accepted. A call that is refused
  * leaves the control record, everything lent and the read buffer as they were.
  *

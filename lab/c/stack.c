@@ -1,8 +1,8 @@
 /* Measures the stack that the calls need, and fails where one needs more than the header says. Each call is made on a stack
  * of its own that is filled with a pattern; counted is how far below the caller's frame the pattern is gone. So the
- * arguments, the caller's place for the answer and the return address are in it, and what memcpy, memmove and memset of
- * the C library need; room that is reserved and never written is not. It is linked with `-z now`: otherwise the first call
- * of memcpy, memmove or memset would have the dynamic linker on the stack.
+ * arguments, the caller's place for the answer and the return address are in it, and what memcpy and memset of the C
+ * library need; room that is reserved and never written is not. It is linked with `-z now`: otherwise the first call of
+ * memcpy or memset would have the dynamic linker on the stack.
  *
  * The calls are those of random histories: rows of many lengths are read, written, moved, sent home and inspected, and
  * some calls are refused. In some histories rows move past runs of worn slots, for which the library's search takes
